@@ -1,0 +1,128 @@
+-- "A configuration of a model has ..": condition by condition. Assumes nothing.
+use Prim.Native.Nat.{ℕ, _+_, _-_}
+use mathlib.Core.Bool.{Bool, true, false, _&&_, _||_}
+use mathlib.Core.List.{List, [], _∷_}
+use mathlib.Core.Option.{Option, none, some}
+use lib.Dec.{leb}
+use lib.IntN.{ℤ, pos}
+use lib.ListN.{take, drop}
+use Rattle.whole.specs.Plain.{all, allTo, allBelow, whenever}
+use Rattle.whole.specs.Whole.{between, eqZ, nat}
+use Rattle.layout.specs.Layout.{Cells, size, firstCall, objectRows, callRows, attributes, locals, object, call, cellOf, read, objects, calls, ofObject, ofCall, runningLabel, attribute, stage, caller, callee, method, args, line, cleared, value, local}
+use Rattle.layout.specs.Stages.{invoked, bound, running, answered, taken, labelOf, inStage}
+use Rattle.code.specs.Statements.{Code}
+use Rattle.code.specs.Blocks.{shapeOf, isShape, aReturn, anAwait}
+use Rattle.model.specs.Model.{Model, runs}
+use Rattle.model.specs.Automaton.{mostParams}
+use Rattle.code.specs.Reader.{lastMethod}
+use Rattle.cells.specs.Standing.{classOf, bodyOf, statementOf}
+
+-- a cell with a number
+abbrev pub is : ℤ → ℕ → Bool
+is z n = eqZ z (pos n)
+
+-- fields from one of a family on are 0: `field i` for each i from `from` to below `family`
+unfoldable pub zeroFrom : ℕ → ℕ → (ℕ → ℤ) → Bool
+zeroFrom family from field = allBelow family (λ i. whenever (leb from i) (is (field i) 0))
+
+-- the cells from one to before another are 0
+unfoldable pub allZero : Cells → Bool
+allZero [] = true
+allZero (z ∷ zs) = elim (is z 0) [ true ↦ allZero zs | false ↦ false ]
+
+unfoldable pub zeroBetween : ℕ → ℕ → Cells → Bool
+zeroBetween from to c = allZero (take (to - from) (drop from c))
+
+module _ (m : Model) (c : Cells) where
+  -- "an object's running label is 0 or a stage 4 call with that callee"
+  unfoldable pub runningNamed : ℕ → Bool
+  runningNamed o = is (ofObject c o runningLabel) 0 || (elim (labelOf c (ofObject c o runningLabel)) [
+    | none ↦ false
+    | some l ↦ inStage c l running && is (ofCall c l callee) o
+  ])
+
+  -- "each class exists; attributes from attrs on are 0"
+  unfoldable pub objectHolds : ℕ → Bool
+  objectHolds o = elim (classOf m c o) [
+    | none ↦ false
+    | some k ↦ zeroFrom attributes (k .attrs) (λ i. ofObject c o (attribute i)) && runningNamed o
+  ]
+
+  -- a call's stage is in a range
+  unfoldable pub stageIn : ℕ → ℕ → ℕ → Bool
+  stageIn l first last = between (pos first) (pos last) (ofCall c l stage)
+
+  -- "Stage is 1..7, caller 0..objects, callee 1..objects, method 0..7."
+  unfoldable pub numbersHold : ℕ → Bool
+  numbersHold l = all (
+      stageIn l invoked taken
+      ∷ between (pos 0) (read c objects) (ofCall c l caller)
+      ∷ between (pos 1) (read c objects) (ofCall c l callee)
+      ∷ between (pos 0) (pos lastMethod) (ofCall c l method)
+      ∷ [])
+
+  -- "each stage 4 call is its callee's running label"
+  unfoldable pub namedByCallee : ℕ → Bool
+  namedByCallee l = whenever (inStage c l running) (is (ofObject c (nat (ofCall c l callee)) runningLabel) l)
+
+  -- "In stages 1 and 2 args is 0..4, v cells from args on and line are 0."
+  unfoldable pub unboundHolds : ℕ → Bool
+  unboundHolds l = all (
+      between (pos 0) (pos mostParams) (ofCall c l args)
+      ∷ zeroFrom locals (nat (ofCall c l args)) (λ i. ofCall c l (local i))
+      ∷ is (ofCall c l line) 0
+      ∷ is (ofCall c l cleared) 0
+      ∷ [])
+
+  -- at a line: "Cleared .. is 1 only in stages 3 and 4 at an await line; in stage 3 with cleared 0 the line is 0. .. in 5 to 7 the line is
+  -- a return."
+  unfoldable pub lineHolds : ℕ → Code → Bool
+  lineHolds l s = all (
+      whenever (is (ofCall c l cleared) 1) (stageIn l bound running && isShape anAwait (shapeOf s))
+      ∷ whenever (inStage c l bound && is (ofCall c l cleared) 0) (is (ofCall c l line) 0)
+      ∷ whenever (stageIn l answered taken) (isShape aReturn (shapeOf s))
+      ∷ [])
+
+  -- "From stage 3 the callee's class has the method, args is its params, line is inside it, v cells from locals on are 0."
+  unfoldable pub boundHolds : ℕ → Bool
+  boundHolds l = elim (bodyOf m c l) [
+    | none ↦ false
+    | some b ↦ zeroFrom locals (b .locals) (λ i. ofCall c l (local i)) && (elim (statementOf m c l) [
+      | none ↦ false
+      | some s ↦ lineHolds l s
+    ])
+  ]
+
+  -- "Caller 0 stands only in stages 3, 4 and 7, with method 0 of a class with run 1."
+  unfoldable pub callerlessHolds : ℕ → Bool
+  callerlessHolds l = whenever (is (ofCall c l caller) 0) (all (
+      (stageIn l bound running || inStage c l taken)
+      ∷ is (ofCall c l method) 0
+      ∷ (elim (classOf m c (nat (ofCall c l callee))) [ none ↦ false | some k ↦ runs k ])
+      ∷ []))
+
+  unfoldable pub callHolds : ℕ → Bool
+  callHolds l = numbersHold l && all (
+      namedByCallee l
+      -- "Cleared is 0 or 1"
+      ∷ between (pos 0) (pos 1) (ofCall c l cleared)
+      -- "Value is 0 below stage 5"
+      ∷ (stageIn l answered taken || is (ofCall c l value) 0)
+      ∷ (elim (stageIn l bound taken) [ true ↦ boundHolds l | false ↦ unboundHolds l ])
+      ∷ callerlessHolds l
+      ∷ [])
+
+  -- "unused ones 0": the cells of the rows past the last in use
+  unfoldable pub unusedHold : Bool
+  unusedHold =
+      zeroBetween (cellOf (object (nat (read c objects) + 1) 0)) firstCall c
+      && zeroBetween (cellOf (call (nat (read c calls) + 1) 0)) size c
+
+  -- "objects 1..32, calls 1..128": each row in use holds, and every other is unused
+  unfoldable pub isConfiguration : Bool
+  isConfiguration =
+      between (pos 1) (pos objectRows) (read c objects)
+      && between (pos 1) (pos callRows) (read c calls)
+      && unusedHold
+      && allTo (nat (read c objects)) objectHolds
+      && allTo (nat (read c calls)) callHolds

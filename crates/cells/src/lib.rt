@@ -1,0 +1,1 @@
+// Whether cells are a configuration of a model.

@@ -1,0 +1,99 @@
+-- How the lines of a method open and close blocks. Assumes nothing.
+use Prim.Native.Nat.{ℕ}
+use mathlib.Core.Bool.{Bool, true, false}
+use mathlib.Core.List.{List, [], _∷_}
+use mathlib.Core.Option.{Option, none, some}
+use lib.Dec.{eqb}
+use Rattle.code.specs.Statements.{Statement, skip, set, new, call, get, await, if, else, fi, while, od, return}
+
+-- what a line is, as far as blocks, returns and awaits go
+pub data Shape : Type 0 where
+  anIf anElse aFi aWhile anOd aReturn anAwait plain : Shape
+
+unfoldable pub shapeOf : {A G : Type 0} → Statement A G → Shape
+shapeOf skip = plain
+shapeOf (set x a) = plain
+shapeOf (new x class es) = plain
+shapeOf (call x a method es) = plain
+shapeOf (get x y) = plain
+shapeOf (await g) = anAwait
+shapeOf (if a) = anIf
+shapeOf else = anElse
+shapeOf fi = aFi
+shapeOf (while a) = aWhile
+shapeOf od = anOd
+shapeOf (return a) = aReturn
+
+-- whether a line is of a shape, by numbers that tell the shapes apart
+unfoldable pub shapeNumber : Shape → ℕ
+shapeNumber anIf = 0
+shapeNumber anElse = 1
+shapeNumber aFi = 2
+shapeNumber aWhile = 3
+shapeNumber anOd = 4
+shapeNumber aReturn = 5
+shapeNumber anAwait = 6
+shapeNumber plain = 7
+
+unfoldable pub isShape : Shape → Shape → Bool
+isShape l m = eqb (shapeNumber l) (shapeNumber m)
+
+-- an open block: an `if` that waits for its `else`, one that waits for its `fi`, a `while` that waits for its `od`
+pub data Block : Type 0 where
+  untilElse untilFi untilOd : Block
+
+-- what tells blocks apart
+unfoldable pub rank : Block → ℕ
+rank untilElse = 0
+rank untilFi = 1
+rank untilOd = 2
+
+-- the block that a line closes, and the one that it opens: "Every `if` has one `else` and one `fi`"
+unfoldable pub closing : Shape → Option Block
+closing anIf = none
+closing anElse = some untilElse
+closing aFi = some untilFi
+closing aWhile = none
+closing anOd = some untilOd
+closing aReturn = none
+closing anAwait = none
+closing plain = none
+
+unfoldable pub opening : Shape → Option Block
+opening anIf = some untilElse
+opening anElse = some untilFi
+opening aFi = none
+opening aWhile = some untilOd
+opening anOd = none
+opening aReturn = none
+opening anAwait = none
+opening plain = none
+
+-- the open blocks, innermost first, without the one that a line closes: it must be the innermost
+unfoldable pub without : Option Block → List Block → Option (List Block)
+without none bs = some bs
+without (some b) [] = none
+without (some b) (c ∷ bs) = elim (eqb (rank b) (rank c)) [ true ↦ some bs | false ↦ none ]
+
+unfoldable pub with : Option Block → List Block → List Block
+with none bs = bs
+with (some b) bs = b ∷ bs
+
+-- the open blocks after a line, or none where the line cannot stand there
+unfoldable pub through : Shape → List Block → Option (List Block)
+through l bs = elim (without (closing l) bs) [ none ↦ none | some after ↦ some (with (opening l) after) ]
+
+-- the open blocks after several lines
+unfoldable pub throughAll : List Shape → List Block → Option (List Block)
+throughAll [] bs = some bs
+throughAll (l ∷ ls) bs = elim (through l bs) [ none ↦ none | some after ↦ throughAll ls after ]
+
+-- no block is open
+unfoldable pub allClosed : Option (List Block) → Bool
+allClosed none = false
+allClosed (some []) = true
+allClosed (some (b ∷ bs)) = false
+
+-- lines that open what they close and close what they open
+unfoldable pub balanced : List Shape → Bool
+balanced ls = allClosed (throughAll ls [])

@@ -1,0 +1,5 @@
+-- What a code value is, how it is read, and how blocks match.
+pub mod Blocks
+pub mod Partners
+pub mod Reader
+pub mod Statements

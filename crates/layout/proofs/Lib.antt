@@ -1,0 +1,3 @@
+-- The laws of the layout.
+pub mod Laws
+pub mod Open

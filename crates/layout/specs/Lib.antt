@@ -1,0 +1,3 @@
+-- The layout of a configuration's cells, and the stages of a call.
+pub mod Layout
+pub mod Stages

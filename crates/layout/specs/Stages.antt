@@ -1,0 +1,61 @@
+-- "Stages: 1 invoked, 2 queued, 3 bound (or suspended), 4 running, 5 answered, 6 reply in, 7 taken." What the stages and the callers say of
+-- a number: whether it is an object or a label in use, and whether a reply is in. Assumes nothing.
+use Prim.Native.Nat.{ℕ}
+use mathlib.Core.Bool.{Bool, true, false, _&&_}
+use mathlib.Core.Option.{Option, none, some}
+use lib.IntN.{ℤ, pos}
+use Rattle.whole.specs.Whole.{between, eqZ, nat}
+use Rattle.layout.specs.Layout.{Cells, read, objects, calls, ofCall, toCall, stage, caller}
+
+abbrev pub invoked : ℕ
+invoked = 1
+
+abbrev pub queued : ℕ
+queued = 2
+
+abbrev pub bound : ℕ
+bound = 3
+
+abbrev pub running : ℕ
+running = 4
+
+abbrev pub answered : ℕ
+answered = 5
+
+abbrev pub replied : ℕ
+replied = 6
+
+abbrev pub taken : ℕ
+taken = 7
+
+-- "Object 0 is nobody."
+abbrev pub nobody : ℤ
+nobody = pos 0
+
+-- a number that was tested, or none
+unfoldable pub tested : Bool → ℤ → Option ℕ
+tested true z = some (nat z)
+tested false z = none
+
+-- an object number in use: 1..objects
+unfoldable pub objectOf : Cells → ℤ → Option ℕ
+objectOf c z = tested (between (pos 1) (read c objects) z) z
+
+-- a label in use: 1..calls
+unfoldable pub labelOf : Cells → ℤ → Option ℕ
+labelOf c z = tested (between (pos 1) (read c calls) z) z
+
+-- a call in a stage
+unfoldable pub inStage : Cells → ℕ → ℕ → Bool
+inStage c l s = eqZ (ofCall c l stage) (pos s)
+
+-- every change of a call's stage
+unfoldable pub staged : Cells → ℕ → ℕ → Cells
+staged c l s = toCall c l stage (pos s)
+
+-- "a label of stage 6 whose caller is this object"
+unfoldable pub replyFor : Cells → ℕ → ℤ → Option ℕ
+replyFor c o z = elim (labelOf c z) [
+  | none ↦ none
+  | some l ↦ tested (inStage c l replied && eqZ (ofCall c l caller) (pos o)) z
+]

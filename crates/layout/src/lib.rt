@@ -1,0 +1,1 @@
+// The cells of a configuration by named places.

@@ -1,0 +1,6 @@
+-- The model text: its lines, the automaton that judges them, the verdict, and the model that an accepted text gives.
+pub mod Automaton
+pub mod Judge
+pub mod Keys
+pub mod Lines
+pub mod Model

@@ -1,0 +1,7 @@
+// The verdict on a model text, and the table that later parts find its lines by.
+
+// A number given back, with the line of the text that it names: 0 where it names none.
+pub struct Verdict {
+    pub number: u32,
+    pub line: u32,
+}

@@ -1,0 +1,2 @@
+-- The theorems over the definitions.
+pub mod Marked

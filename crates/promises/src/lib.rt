@@ -1,0 +1,1 @@
+// Theorems over the definitions: nothing here runs.

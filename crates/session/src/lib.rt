@@ -1,0 +1,1 @@
+// A runner's session: choices from bytes, and the bytes that it writes.

@@ -1,0 +1,71 @@
+-- How a map of what was read goes past readings that follow one another. Assumes nothing.
+use Prim.Native.Nat.{ℕ, zero, suc, _+_}
+use mathlib.Core.Path.{_≡_, refl, sym, ap, _∙_}
+use mathlib.Core.Option.{Option, none, some}
+use Rattle.terms.specs.Bytes.{Text, byteAt}
+use Rattle.terms.specs.Parsed.{Parsed, got, bad, next, mapped, word, closed, joined, series}
+
+pub mapped-mapped : {A B C : Type 0} (h : B → C) (k : A → B) (p : Parsed A) → mapped h (mapped k p) ≡ mapped (λ a. h (k a)) p
+unfolding mapped
+mapped-mapped h k (got at a) = refl
+mapped-mapped h k (bad at) = refl
+
+-- a map after a map, where the two make a third
+pub mapped-twice : {A B C : Type 0} (h : B → C) (k : A → B) (l : A → C) → ((a : A) → h (k a) ≡ l a) → (p : Parsed A) → mapped h (mapped k p) ≡ mapped l p
+unfolding mapped
+mapped-twice h k l e (got at a) = ap (got at) (e a)
+mapped-twice h k l e (bad at) = refl
+
+pub mapped-bad : {A B : Type 0} (h : A → B) (at : ℕ) → mapped h (bad at) ≡ bad at
+unfolding mapped
+mapped-bad h at = refl
+
+pub mapped-next : {A B C : Type 0} (h : B → C) (p : Parsed A) (k : ℕ → A → Parsed B) → mapped h (next p k) ≡ next p (λ at a. mapped h (k at a))
+unfolding mapped next
+mapped-next h (got at a) k = refl
+mapped-next h (bad at) k = refl
+
+pub next-mapped : {A B C : Type 0} (h : A → B) (p : Parsed A) (k : ℕ → B → Parsed C) → next (mapped h p) k ≡ next p (λ at a. k at (h a))
+unfolding mapped next
+next-mapped h (got at a) k = refl
+next-mapped h (bad at) k = refl
+
+-- two ways to go on that agree
+pub next-same : {A B : Type 0} (p : Parsed A) (k l : ℕ → A → Parsed B) → ((at : ℕ) (a : A) → k at a ≡ l at a) → next p k ≡ next p l
+unfolding next
+next-same (got at a) k l e = e at a
+next-same (bad at) k l e = refl
+
+-- a map past one reading that is followed by another: what the map makes of the first is all that the second needs
+pub respects-next : {A A′ B B′ : Type 0} (h : A → A′) (i : B → B′) (p : Parsed A) (k : ℕ → A → Parsed B) (k′ : ℕ → A′ → Parsed B′)
+    → ((at : ℕ) (a : A) → mapped i (k at a) ≡ k′ at (h a)) → mapped i (next p k) ≡ next (mapped h p) k′
+respects-next h i p k k′ e = mapped-next i p k ∙ next-same p _ _ e ∙ sym (next-mapped h p k′)
+
+-- a map past a closing byte
+pub respects-closed : {A B : Type 0} (h : A → B) (b : ℕ) (s : Text) (p : Parsed A) → mapped h (closed b s p) ≡ closed b s (mapped h p)
+unfolding closed
+respects-closed h b s p = respects-next h h p _ _ (λ at a. mapped-mapped h _ _)
+
+module _ {O A B : Type 0} (h : A → B) (operator : ℕ → Option O) (f : O → A → A → A) (g : O → B → B → B) (s : Text)
+    (respects : (o : O) (a b : A) → h (f o a b) ≡ g o (h a) (h b))
+    (item : ℕ → Parsed A) (item′ : ℕ → Parsed B) (items : (at : ℕ) → mapped h (item at) ≡ item′ at) where
+  -- a map that respects the operators, past items that are joined by them
+  respects-joined : (more at : ℕ) (a : A) → mapped h (joined operator f s item more at a) ≡ joined operator g s item′ more at (h a)
+  unfolding mapped joined
+  respects-joined zero at a = refl
+  respects-joined (suc more) at a = go (operator (byteAt s at)) (respects-joined more)
+    where
+      go : (o : Option O) → ((p : ℕ) (b : A) → mapped h (joined operator f s item more p b) ≡ joined operator g s item′ more p (h b))
+          → mapped h (elim o [ none ↦ got at a | some w ↦ next (item (at + 1)) (λ p b. joined operator f s item more p (f w a b)) ])
+          ≡ elim o [ none ↦ got at (h a) | some w ↦ next (item′ (at + 1)) (λ p b. joined operator g s item′ more p (g w (h a) b)) ]
+      go none rest = refl
+      go (some w) rest =
+          respects-next h h (item (at + 1)) _ (λ p b. joined operator g s item′ more p (g w (h a) b))
+          (λ p b. rest p (f w a b) ∙ ap (joined operator g s item′ more p) (respects w a b))
+          ∙ ap (λ q. next q (λ p b. joined operator g s item′ more p (g w (h a) b))) (items (at + 1))
+
+  pub respects-series : (more at : ℕ) → mapped h (series operator f s item more at) ≡ series operator g s item′ more at
+  unfolding series
+  respects-series more at =
+      respects-next h h (item at) _ (joined operator g s item′ more) (respects-joined more)
+      ∙ ap (λ q. next q (joined operator g s item′ more)) (items at)

@@ -1,0 +1,99 @@
+-- The grammar of expressions, over any reading. Assumes nothing.
+use Prim.Native.Nat.{ℕ, zero, suc, _+_}
+use Prim.Native.Char.{code}
+use mathlib.Core.Bool.{Bool, true, false}
+use mathlib.Core.Option.{Option, none, some}
+use lib.Dec.{leb, eqb}
+use lib.ListN.{length}
+use Rattle.whole.specs.declared.Operator.{Operator}
+use Rattle.whole.specs.declared.Operator.the-variants.{Plus, Minus, Times, Less, Equal}
+use Rattle.terms.specs.declared.Variable.{Variable}
+use Rattle.terms.specs.Bytes.{Text, bytes, byteAt, digit}
+use Rattle.terms.specs.Leaves.{Limits, decimal, variable}
+use Rattle.terms.specs.Parsed.{Parsed, got, bad, next, mapped, word, closed, series}
+
+-- "a decimal 0..2147483647"
+abbrev pub largest : ℕ
+largest = 2147483647
+
+-- "At most 8 brackets are open at once."
+abbrev pub brackets : ℕ
+brackets = 8
+
+-- what each part of an expression gives
+pub record Reading (A : Type 0) : Type 0 where
+  pub number : ℕ → A
+  pub variable : Variable → A
+  pub self : A
+  pub caller : A
+  pub apply : Operator → A → A → A
+
+-- "two sums joined by one `<` or `=`"
+unfoldable pub comparison : ℕ → Option Operator
+comparison b = elim (eqb b (code "<")) [
+  | true ↦ some Less
+  | false ↦ elim (eqb b (code "=")) [ true ↦ some Equal | false ↦ none ]
+]
+
+-- "products joined by `+` or `-`"
+unfoldable pub sign : ℕ → Option Operator
+sign b = elim (eqb b (code "+")) [
+  | true ↦ some Plus
+  | false ↦ elim (eqb b (code "-")) [ true ↦ some Minus | false ↦ none ]
+]
+
+-- "factors joined by `*`"
+unfoldable pub star : ℕ → Option Operator
+star b = elim (eqb b (code "*")) [ true ↦ some Times | false ↦ none ]
+
+-- "A factor is a decimal 0..2147483647, a variable, `self`, `caller`, or an expression in round brackets": its first byte tells which
+pub data Start : Type 0 where
+  aDecimal aVariable theSelf theCaller anOpening noStart : Start
+
+unfoldable pub startOf : ℕ → Start
+startOf b = elim (digit b) [
+  | some d ↦ aDecimal
+  | none ↦ elim (eqb b (code "s")) [
+    | true ↦ theSelf
+    | false ↦ elim (eqb b (code "c")) [
+      | true ↦ theCaller
+      | false ↦ elim (eqb b (code "(")) [
+        | true ↦ anOpening
+        | false ↦ elim (eqb b (code "a")) [
+          | true ↦ aVariable
+          | false ↦ elim (eqb b (code "v")) [ true ↦ aVariable | false ↦ noStart ]
+        ]
+      ]
+    ]
+  ]
+]
+
+module _ {A : Type 0} (R : Reading A) (lim : Limits) (s : Text) where
+  -- a factor by its start, where `inside` reads what stands at an opening bracket
+  unfoldable pub factorBy : Start → (ℕ → Parsed A) → ℕ → Parsed A
+  factorBy aDecimal inside at = mapped (R .number) (decimal largest s at)
+  factorBy aVariable inside at = mapped (R .variable) (variable lim s at)
+  factorBy theSelf inside at = mapped (λ _. R .self) (word (bytes "self") s at)
+  factorBy theCaller inside at = mapped (λ _. R .caller) (word (bytes "caller") s at)
+  factorBy anOpening inside at = inside at
+  factorBy noStart inside at = bad at
+
+  unfoldable pub factor : (ℕ → Parsed A) → ℕ → Parsed A
+  factor inside at = factorBy (startOf (byteAt s at)) inside at
+
+  -- "a product is factors joined by `*`"
+  unfoldable pub product : (ℕ → Parsed A) → ℕ → Parsed A
+  product inside = series star (R .apply) s (factor inside) (length s)
+
+  -- "A sum is products joined by `+` or `-`"
+  unfoldable pub sum : (ℕ → Parsed A) → ℕ → Parsed A
+  sum inside = series sign (R .apply) s (product inside) (length s)
+
+  -- "Expression: a sum, or two sums joined by one `<` or `=`"
+  unfoldable pub comparing : (ℕ → Parsed A) → ℕ → Parsed A
+  comparing inside = series comparison (R .apply) s (sum inside) 1
+
+  -- an expression with so many brackets still allowed
+  unfoldable pub expression : ℕ → ℕ → Parsed A
+  expression zero = comparing bad
+  expression (suc left) = comparing (λ at. closed (code ")") s (expression left (at + 1)))

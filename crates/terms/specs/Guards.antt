@@ -1,0 +1,76 @@
+-- The grammar of guards, over any reading of guards and of the expressions in them. Assumes nothing.
+use Prim.Native.Nat.{ℕ, zero, suc, _+_}
+use Prim.Native.Char.{code}
+use mathlib.Core.Bool.{Bool, true, false}
+use mathlib.Core.Option.{Option, none, some}
+use lib.Dec.{eqb}
+use lib.ListN.{length}
+use Rattle.terms.specs.declared.Variable.{Variable}
+use Rattle.terms.specs.Bytes.{Text, bytes, byteAt}
+use Rattle.terms.specs.Expressions.{Reading, expression}
+use Rattle.terms.specs.Leaves.{Limits, variable}
+use Rattle.terms.specs.Parsed.{Parsed, got, bad, next, mapped, word, closed, series}
+
+-- "conjunctions joined by `|`; a conjunction is atoms joined by `&`"
+pub data Junction : Type 0 where
+  both either : Junction
+
+-- what each part of a guard gives, where its expressions give an A
+pub record GuardReading (A G : Type 0) : Type 0 where
+  pub wait : G
+  pub reply : Variable → G
+  pub test : A → G
+  pub join : Junction → G → G → G
+
+unfoldable pub ampersand : ℕ → Option Junction
+ampersand b = elim (eqb b (code "&")) [ true ↦ some both | false ↦ none ]
+
+unfoldable pub bar : ℕ → Option Junction
+bar b = elim (eqb b (code "|")) [ true ↦ some either | false ↦ none ]
+
+-- "an atom is `wait`, a variable followed by `?`, an expression in square brackets, or a guard in round brackets": its first byte tells
+pub data AtomStart : Type 0 where
+  theWait aReply aTest aGuard noAtom : AtomStart
+
+unfoldable pub atomStartOf : ℕ → AtomStart
+atomStartOf b = elim (eqb b (code "w")) [
+  | true ↦ theWait
+  | false ↦ elim (eqb b (code "[")) [
+    | true ↦ aTest
+    | false ↦ elim (eqb b (code "(")) [
+      | true ↦ aGuard
+      | false ↦ elim (eqb b (code "a")) [
+        | true ↦ aReply
+        | false ↦ elim (eqb b (code "v")) [ true ↦ aReply | false ↦ noAtom ]
+      ]
+    ]
+  ]
+]
+
+module _ {A G : Type 0} (R : Reading A) (Q : GuardReading A G) (lim : Limits) (s : Text) where
+  -- an atom by its start, where `test` and `inside` read what stands at an opening bracket, square or round
+  unfoldable pub atomBy : AtomStart → (ℕ → Parsed A) → (ℕ → Parsed G) → ℕ → Parsed G
+  atomBy theWait test inside at = mapped (λ _. Q .wait) (word (bytes "wait") s at)
+  atomBy aReply test inside at = mapped (Q .reply) (closed (code "?") s (variable lim s at))
+  atomBy aTest test inside at = mapped (Q .test) (test at)
+  atomBy aGuard test inside at = inside at
+  atomBy noAtom test inside at = bad at
+
+  unfoldable pub atom : (ℕ → Parsed A) → (ℕ → Parsed G) → ℕ → Parsed G
+  atom test inside at = atomBy (atomStartOf (byteAt s at)) test inside at
+
+  -- "a conjunction is atoms joined by `&`"
+  unfoldable pub conjunction : (ℕ → Parsed A) → (ℕ → Parsed G) → ℕ → Parsed G
+  conjunction test inside = series ampersand (Q .join) s (atom test inside) (length s)
+
+  -- "Guard: conjunctions joined by `|`"
+  unfoldable pub disjunction : (ℕ → Parsed A) → (ℕ → Parsed G) → ℕ → Parsed G
+  disjunction test inside = series bar (Q .join) s (conjunction test inside) (length s)
+
+  -- a guard with so many brackets still allowed, its own and those of the expressions in it counted together
+  unfoldable pub guard : ℕ → ℕ → Parsed G
+  guard zero = disjunction bad bad
+  guard (suc left) =
+      disjunction
+      (λ at. closed (code "]") s (expression R lim s left (at + 1)))
+      (λ at. closed (code ")") s (guard left (at + 1)))

@@ -1,0 +1,50 @@
+-- What reading at a place gives, and how readings follow one another. A refusal carries its place: the first byte from which no
+-- continuation is valid. Assumes nothing.
+use Prim.Native.Nat.{ℕ, zero, suc, _+_}
+use mathlib.Core.Bool.{true, false}
+use mathlib.Core.List.{List, [], _∷_}
+use mathlib.Core.Option.{Option, none, some}
+use lib.Dec.{eqb}
+use lib.ListN.{length}
+use Rattle.terms.specs.Bytes.{Text, byteAt}
+
+-- `got at a`: a was read, and the reading ended at a place. `bad at`: nothing valid goes on from a place
+pub data Parsed (A : Type 0) : Type 0 where
+  got : ℕ → A → Parsed A
+  bad : ℕ → Parsed A
+
+-- one reading after another
+unfoldable pub next : {A B : Type 0} → Parsed A → (ℕ → A → Parsed B) → Parsed B
+next (got at a) k = k at a
+next (bad at) k = bad at
+
+-- what was read, put another way
+unfoldable pub mapped : {A B : Type 0} → (A → B) → Parsed A → Parsed B
+mapped h (got at a) = got at (h a)
+mapped h (bad at) = bad at
+
+-- the very bytes of a word; the place of a refusal is the first that differs
+unfoldable pub word : Text → Text → ℕ → Parsed (Unit {0})
+word [] s at = got at tt
+word (b ∷ w) s at = elim (eqb (byteAt s at) b) [ true ↦ word w s (at + 1) | false ↦ bad at ]
+
+-- what was read must reach the end of the text
+unfoldable pub ended : {A : Type 0} → Text → Parsed A → Parsed A
+ended s (got at a) = elim (eqb at (length s)) [ true ↦ got at a | false ↦ bad at ]
+ended s (bad at) = bad at
+
+-- a closing byte after what was read
+unfoldable pub closed : {A : Type 0} → ℕ → Text → Parsed A → Parsed A
+closed b s p = next p (λ at a. mapped (λ _. a) (word (b ∷ []) s at))
+
+-- items after a first, each behind a byte that is an operator, at most so many, "grouped from the left"
+unfoldable pub joined : {O A : Type 0} → (ℕ → Option O) → (O → A → A → A) → Text → (ℕ → Parsed A) → ℕ → ℕ → A → Parsed A
+joined operator apply s item zero at a = got at a
+joined operator apply s item (suc more) at a = elim (operator (byteAt s at)) [
+  | none ↦ got at a
+  | some o ↦ next (item (at + 1)) (λ next-at b. joined operator apply s item more next-at (apply o a b))
+]
+
+-- items joined by operators, with at most so many after the first
+unfoldable pub series : {O A : Type 0} → (ℕ → Option O) → (O → A → A → A) → Text → (ℕ → Parsed A) → ℕ → ℕ → Parsed A
+series operator apply s item more at = next (item at) (joined operator apply s item more)

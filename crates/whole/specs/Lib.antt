@@ -1,0 +1,4 @@
+-- The definitions of whole numbers, and the table of the numbers given back.
+pub mod Plain
+pub mod Refusals
+pub mod Whole
