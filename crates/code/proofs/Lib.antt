@@ -1,2 +1,4 @@
--- What the proofs of this crate and of those above it cite.
+-- The laws of the grammar of code values, and what the proofs above cite.
+mod Cases
 pub mod Open
+pub mod Respect

@@ -1,3 +1,4 @@
--- The laws of the layout.
+-- The laws of the layout, and what the proofs above cite.
+mod Cases
 pub mod Laws
 pub mod Open

@@ -1,9 +1,12 @@
 -- How a map of what was read goes past readings that follow one another. Assumes nothing.
 use Prim.Native.Nat.{ℕ, zero, suc, _+_}
-use mathlib.Core.Path.{_≡_, refl, sym, ap, _∙_}
+use mathlib.Core.Bool.{Bool, true, false}
 use mathlib.Core.Option.{Option, none, some}
+use mathlib.Core.Path.{_≡_, refl, sym, ap, _∙_}
+use lib.Dec.{eqb}
+use lib.ListN.{length}
 use Rattle.terms.specs.Bytes.{Text, byteAt}
-use Rattle.terms.specs.Parsed.{Parsed, got, bad, next, mapped, word, closed, joined, series}
+use Rattle.terms.specs.Parsed.{Parsed, got, bad, next, mapped, word, ended, closed, joined, series}
 
 pub mapped-mapped : {A B C : Type 0} (h : B → C) (k : A → B) (p : Parsed A) → mapped h (mapped k p) ≡ mapped (λ a. h (k a)) p
 unfolding mapped
@@ -19,6 +22,10 @@ mapped-twice h k l e (bad at) = refl
 pub mapped-bad : {A B : Type 0} (h : A → B) (at : ℕ) → mapped h (bad at) ≡ bad at
 unfolding mapped
 mapped-bad h at = refl
+
+pub mapped-got : {A B : Type 0} (h : A → B) (at : ℕ) (a : A) → mapped h (got at a) ≡ got at (h a)
+unfolding mapped
+mapped-got h at a = refl
 
 pub mapped-next : {A B C : Type 0} (h : B → C) (p : Parsed A) (k : ℕ → A → Parsed B) → mapped h (next p k) ≡ next p (λ at a. mapped h (k at a))
 unfolding mapped next
@@ -45,6 +52,16 @@ respects-next h i p k k′ e = mapped-next i p k ∙ next-same p _ _ e ∙ sym (
 pub respects-closed : {A B : Type 0} (h : A → B) (b : ℕ) (s : Text) (p : Parsed A) → mapped h (closed b s p) ≡ closed b s (mapped h p)
 unfolding closed
 respects-closed h b s p = respects-next h h p _ _ (λ at a. mapped-mapped h _ _)
+
+-- a map past the end of the text
+pub respects-ended : {A B : Type 0} (h : A → B) (s : Text) (p : Parsed A) → mapped h (ended s p) ≡ ended s (mapped h p)
+unfolding mapped ended
+respects-ended h s (got at a) = go (eqb at (length s))
+  where
+    go : (b : Bool) → mapped h (elim b [ true ↦ got at a | false ↦ bad at ]) ≡ elim b [ true ↦ got at (h a) | false ↦ bad at ]
+    go true = refl
+    go false = refl
+respects-ended h s (bad at) = refl
 
 module _ {O A B : Type 0} (h : A → B) (operator : ℕ → Option O) (f : O → A → A → A) (g : O → B → B → B) (s : Text)
     (respects : (o : O) (a b : A) → h (f o a b) ≡ g o (h a) (h b))

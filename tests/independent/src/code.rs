@@ -1,6 +1,6 @@
 //! Code lines: statements, and the partners of their blocks.
 
-use crate::expression::{ExpressionId, Limits, Trees, Variable, BRACKETS};
+use crate::expression::{Arguments, ExpressionId, Limits, Trees, Variable, BRACKETS};
 use crate::guard::GuardId;
 use crate::text::Reader;
 
@@ -12,7 +12,7 @@ pub const CALL_ARGUMENTS: usize = 4;
 pub const METHOD_INDICES: u8 = 8;
 
 /// What a code line does. A block's line knows the line where it goes on.
-#[derive(Clone, Debug, PartialEq, Eq)]
+#[derive(Clone, Copy, Debug, PartialEq, Eq)]
 pub enum Statement {
     Skip,
     Set {
@@ -22,13 +22,13 @@ pub enum Statement {
     New {
         target: Variable,
         class: u8,
-        arguments: Vec<ExpressionId>,
+        arguments: Arguments,
     },
     Call {
         target: Variable,
         callee: ExpressionId,
         method: u8,
-        arguments: Vec<ExpressionId>,
+        arguments: Arguments,
     },
     Get {
         label: Variable,
@@ -59,12 +59,7 @@ pub enum Statement {
 
 /// Reads a code value; None where it is outside the grammar. Where the lines of
 /// a block go on is not known from the value alone: [`Blocks`] fills it in.
-pub fn parse(
-    value: &[u8],
-    limits: Limits,
-    classes: u8,
-    trees: &mut Trees,
-) -> Option<Statement> {
+pub fn parse(value: &[u8], limits: Limits, classes: u8, trees: &mut Trees) -> Option<Statement> {
     let word_length = value
         .iter()
         .position(|byte| *byte == b' ')
@@ -92,7 +87,7 @@ pub fn parse(
             method: line.index_below(METHOD_INDICES)?,
             arguments: line
                 .arguments()
-                .filter(|arguments| arguments.len() <= CALL_ARGUMENTS)?,
+                .filter(|arguments| arguments.count() <= CALL_ARGUMENTS)?,
         },
         b"get" => Statement::Get {
             label: line.variable()?,
@@ -156,14 +151,16 @@ impl CodeReader<'_, '_> {
     }
 
     /// None of them, or a space and one or more joined by commas.
-    fn arguments(&mut self) -> Option<Vec<ExpressionId>> {
-        let mut arguments = Vec::new();
+    fn arguments(&mut self) -> Option<Arguments> {
+        let mut arguments = self.trees.no_arguments();
         if self.reader.is_at_end() {
             return Some(arguments);
         }
-        arguments.push(self.expression()?);
+        let first = self.expression()?;
+        self.trees.add_argument(&mut arguments, first);
         while self.reader.take(b',') {
-            arguments.push(self.bare_expression()?);
+            let next = self.bare_expression()?;
+            self.trees.add_argument(&mut arguments, next);
         }
         Some(arguments)
     }

@@ -1,8 +1,7 @@
 //! The configuration: rows of objects and calls, decoded from cells and encoded
-//! back, and the conditions under which they are a configuration of a model.
+//! back.
 
-use crate::code::{Statement, CALL_ARGUMENTS, METHOD_INDICES};
-use crate::model::{Class, Model};
+use crate::code::{CALL_ARGUMENTS, METHOD_INDICES};
 
 pub const OBJECT_ROWS: usize = 32;
 pub const CALL_ROWS: usize = 128;
@@ -128,6 +127,14 @@ impl Configuration {
         &self.calls
     }
 
+    pub(crate) fn numbered_objects(&self) -> impl Iterator<Item = (ObjectNumber, &Object)> {
+        (1..).map(ObjectNumber).zip(&self.objects)
+    }
+
+    pub(crate) fn labelled_calls(&self) -> impl Iterator<Item = (Label, &Call)> {
+        (1..).map(Label).zip(&self.calls)
+    }
+
     pub fn object_number(&self, cell: i32) -> Option<ObjectNumber> {
         number_in_use(cell, self.objects.len()).map(ObjectNumber)
     }
@@ -230,51 +237,21 @@ impl Configuration {
     pub fn encode(&self, cells: &mut [i32; CELLS]) {
         cells[0] = self.objects.len() as i32;
         cells[1] = self.calls.len() as i32;
-        let (objects, calls) = cells[HEADER_CELLS..].split_at_mut(CALLS_FROM - HEADER_CELLS);
-        let mut rows = objects.chunks_exact_mut(OBJECT_CELLS);
-        for (object, row) in self.objects.iter().zip(&mut rows) {
+        let (objects, unused) =
+            cells[HEADER_CELLS..CALLS_FROM].split_at_mut(self.objects.len() * OBJECT_CELLS);
+        for (object, row) in self
+            .objects
+            .iter()
+            .zip(objects.chunks_exact_mut(OBJECT_CELLS))
+        {
             object.encode(row);
         }
-        rows.for_each(|row| row.fill(0));
-        let mut rows = calls.chunks_exact_mut(CALL_CELLS);
-        for (call, row) in self.calls.iter().zip(&mut rows) {
+        unused.fill(0);
+        let (calls, unused) = cells[CALLS_FROM..].split_at_mut(self.calls.len() * CALL_CELLS);
+        for (call, row) in self.calls.iter().zip(calls.chunks_exact_mut(CALL_CELLS)) {
             call.encode(row);
         }
-        rows.for_each(|row| row.fill(0));
-    }
-
-    /// Whether these rows are a configuration of the model.
-    pub fn is_of(&self, model: &Model) -> bool {
-        (1..).zip(&self.objects).all(|(number, object)| {
-            self.object_is_of(model, ObjectNumber(number), object)
-        }) && (1..)
-            .zip(&self.calls)
-            .all(|(number, call)| self.call_is_of(model, Label(number), call))
-    }
-
-    fn object_is_of(&self, model: &Model, number: ObjectNumber, object: &Object) -> bool {
-        let Some(class) = model.classes.get(usize::from(object.class)) else {
-            return false;
-        };
-        let runs_its_own = object.running.is_none_or(|label| {
-            let call = self.call(label);
-            call.stage == Stage::Running && call.callee == number
-        });
-        runs_its_own && are_zero(&object.attributes[usize::from(class.attrs)..])
-    }
-
-    fn call_is_of(&self, model: &Model, label: Label, call: &Call) -> bool {
-        let callee = self.object(call.callee);
-        let Some(class) = model.classes.get(usize::from(callee.class)) else {
-            return false;
-        };
-        let is_running_there = call.stage != Stage::Running || callee.running == Some(label);
-        let has_its_value = call.value == 0 || call.stage >= Stage::Answered;
-        let is_at_its_place = match call.stage {
-            Stage::Invoked | Stage::Queued => call.is_unbound(),
-            _ => call.is_bound_in(class),
-        };
-        is_running_there && has_its_value && is_at_its_place && call.has_its_caller(class)
+        unused.fill(0);
     }
 }
 
@@ -299,8 +276,9 @@ fn number_or_none(cell: i32, in_use: usize) -> Option<Option<u8>> {
     }
 }
 
-fn are_zero(cells: &[i32]) -> bool {
-    cells.iter().all(|cell| *cell == 0)
+pub(crate) fn are_zero(cells: &[i32]) -> bool {
+    // Most of the cells are unused: one pass without a branch is the fastest.
+    cells.iter().fold(0, |bits, cell| bits | cell) == 0
 }
 
 fn variables(cells: &[i32]) -> Option<[i32; VARIABLES]> {
@@ -353,41 +331,5 @@ impl Call {
         row[6] = i32::from(self.cleared);
         row[7] = self.value;
         row[8..].copy_from_slice(&self.locals);
-    }
-
-    /// Nobody calls method 0 of a class with run 1, and nobody is answered.
-    fn has_its_caller(&self, class: &Class) -> bool {
-        let may_be_nobody = matches!(self.stage, Stage::Bound | Stage::Running | Stage::Taken);
-        self.caller.is_some() || (may_be_nobody && self.method == 0 && class.run)
-    }
-
-    /// Stages 1 and 2: there are arguments, and nothing has been performed.
-    fn is_unbound(&self) -> bool {
-        self.line == 0 && !self.cleared && are_zero(&self.locals[usize::from(self.args)..])
-    }
-
-    /// From stage 3 on: a place in a method of the callee's class.
-    fn is_bound_in(&self, class: &Class) -> bool {
-        let Some(method) = class.binds(self.method, self.args) else {
-            return false;
-        };
-        let Some(statement) = method.code.get(usize::from(self.line)) else {
-            return false;
-        };
-        are_zero(&self.locals[usize::from(method.locals)..]) && self.stands_at(statement)
-    }
-
-    fn stands_at(&self, statement: &Statement) -> bool {
-        let is_await = matches!(statement, Statement::Await(_));
-        match self.stage {
-            Stage::Invoked | Stage::Queued => false,
-            // A call waits in stage 3 at its first line, or where it was suspended.
-            Stage::Bound if !self.cleared => self.line == 0,
-            Stage::Bound => is_await,
-            Stage::Running => is_await || !self.cleared,
-            Stage::Answered | Stage::ReplyIn | Stage::Taken => {
-                !self.cleared && matches!(statement, Statement::Return(_))
-            }
-        }
     }
 }

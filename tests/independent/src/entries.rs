@@ -137,9 +137,7 @@ fn take_first_accepted(model: &Model, configuration: &mut Configuration) -> bool
 }
 
 fn exact(cells: &mut [i32]) -> Result<&mut [i32; CELLS], Verdict> {
-    cells
-        .try_into()
-        .map_err(|_| Refusal::WrongCellCount.into())
+    cells.try_into().map_err(|_| Refusal::WrongCellCount.into())
 }
 
 fn configuration_of(model: &Model, cells: &[i32]) -> Result<Configuration, Verdict> {

@@ -15,22 +15,56 @@ pub enum Expression {
     Variable(Variable),
     Myself,
     Caller,
-    Sum(ExpressionId, ExpressionId),
-    Difference(ExpressionId, ExpressionId),
-    Product(ExpressionId, ExpressionId),
-    Less(ExpressionId, ExpressionId),
-    Equal(ExpressionId, ExpressionId),
+    Joined(Join, ExpressionId, ExpressionId),
+}
+
+/// What joins two operands.
+#[derive(Clone, Copy, Debug, PartialEq, Eq)]
+pub enum Join {
+    Plus,
+    Minus,
+    Times,
+    Less,
+    Equal,
+}
+
+impl Join {
+    /// The result, with room for any that is out of range.
+    fn apply(self, left: i32, right: i32) -> i64 {
+        let (left, right) = (i64::from(left), i64::from(right));
+        match self {
+            Join::Plus => left + right,
+            Join::Minus => left - right,
+            Join::Times => left * right,
+            Join::Less => i64::from(left < right),
+            Join::Equal => i64::from(left == right),
+        }
+    }
 }
 
 /// Where a node stands in its [`Trees`].
 #[derive(Clone, Copy, Debug, PartialEq, Eq)]
 pub struct ExpressionId(u32);
 
+/// The arguments of a `new` or a `call`: neighbours in their [`Trees`].
+#[derive(Clone, Copy, Debug, PartialEq, Eq)]
+pub struct Arguments {
+    first: u32,
+    count: u32,
+}
+
+impl Arguments {
+    pub fn count(self) -> usize {
+        self.count as usize
+    }
+}
+
 /// All nodes of a model's expressions and guards, side by side, so that reading
 /// a text does not allocate for every node.
 #[derive(Clone, Debug, Default, PartialEq, Eq)]
 pub struct Trees {
     expressions: Vec<Expression>,
+    arguments: Vec<ExpressionId>,
     pub(crate) guards: Vec<Guard>,
 }
 
@@ -98,6 +132,24 @@ impl Trees {
         id
     }
 
+    pub(crate) fn no_arguments(&self) -> Arguments {
+        Arguments {
+            first: self.arguments.len() as u32,
+            count: 0,
+        }
+    }
+
+    /// Adds to a list that is still the last one.
+    pub(crate) fn add_argument(&mut self, list: &mut Arguments, argument: ExpressionId) {
+        self.arguments.push(argument);
+        list.count += 1;
+    }
+
+    pub(crate) fn arguments(&self, list: Arguments) -> &[ExpressionId] {
+        let first = list.first as usize;
+        &self.arguments[first..first + list.count()]
+    }
+
     /// A sum, or two sums joined by one `<` or `=`.
     pub(crate) fn read_expression(
         &mut self,
@@ -107,13 +159,13 @@ impl Trees {
     ) -> Option<ExpressionId> {
         let left = self.read_sum(reader, limits, brackets)?;
         let join = match reader.peek() {
-            Some(b'<') => Expression::Less,
-            Some(b'=') => Expression::Equal,
+            Some(b'<') => Join::Less,
+            Some(b'=') => Join::Equal,
             _ => return Some(left),
         };
         reader.advance();
         let right = self.read_sum(reader, limits, brackets)?;
-        Some(self.node(join(left, right)))
+        Some(self.node(Expression::Joined(join, left, right)))
     }
 
     fn read_sum(
@@ -125,13 +177,13 @@ impl Trees {
         let mut left = self.read_product(reader, limits, brackets)?;
         loop {
             let join = match reader.peek() {
-                Some(b'+') => Expression::Sum,
-                Some(b'-') => Expression::Difference,
+                Some(b'+') => Join::Plus,
+                Some(b'-') => Join::Minus,
                 _ => return Some(left),
             };
             reader.advance();
             let right = self.read_product(reader, limits, brackets)?;
-            left = self.node(join(left, right));
+            left = self.node(Expression::Joined(join, left, right));
         }
     }
 
@@ -144,7 +196,7 @@ impl Trees {
         let mut left = self.read_factor(reader, limits, brackets)?;
         while reader.take(b'*') {
             let right = self.read_factor(reader, limits, brackets)?;
-            left = self.node(Expression::Product(left, right));
+            left = self.node(Expression::Joined(Join::Times, left, right));
         }
         Some(left)
     }
@@ -173,18 +225,16 @@ impl Trees {
 
     /// The value, worked out from the left; None where a result is out of range.
     pub(crate) fn value(&self, id: ExpressionId, surroundings: &Surroundings) -> Option<i32> {
-        let wide = |id| self.value(id, surroundings).map(i64::from);
-        let result = match self.expressions[id.0 as usize] {
-            Expression::Number(number) => return Some(number),
-            Expression::Variable(variable) => return Some(surroundings.variable(variable)),
-            Expression::Myself => return Some(surroundings.object_number.cell()),
-            Expression::Caller => return Some(ObjectNumber::cell_of(surroundings.call.caller)),
-            Expression::Sum(left, right) => wide(left)? + wide(right)?,
-            Expression::Difference(left, right) => wide(left)? - wide(right)?,
-            Expression::Product(left, right) => wide(left)? * wide(right)?,
-            Expression::Less(left, right) => i64::from(wide(left)? < wide(right)?),
-            Expression::Equal(left, right) => i64::from(wide(left)? == wide(right)?),
-        };
-        i32::try_from(result).ok()
+        match self.expressions[id.0 as usize] {
+            Expression::Number(number) => Some(number),
+            Expression::Variable(variable) => Some(surroundings.variable(variable)),
+            Expression::Myself => Some(surroundings.object_number.cell()),
+            Expression::Caller => Some(ObjectNumber::cell_of(surroundings.call.caller)),
+            Expression::Joined(join, left, right) => {
+                let left = self.value(left, surroundings)?;
+                let right = self.value(right, surroundings)?;
+                i32::try_from(join.apply(left, right)).ok()
+            }
+        }
     }
 }

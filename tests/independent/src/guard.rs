@@ -76,12 +76,7 @@ impl Trees {
         Some(left)
     }
 
-    fn read_atom(
-        &mut self,
-        reader: &mut Reader,
-        limits: Limits,
-        brackets: u32,
-    ) -> Option<GuardId> {
+    fn read_atom(&mut self, reader: &mut Reader, limits: Limits, brackets: u32) -> Option<GuardId> {
         let leaf = match reader.peek()? {
             b'(' => {
                 let inside = brackets.checked_sub(1)?;

@@ -8,6 +8,7 @@
 #![forbid(unsafe_code)]
 
 pub mod code;
+mod conditions;
 pub mod configuration;
 mod entries;
 pub mod expression;

@@ -149,7 +149,7 @@ impl Reading<'_> {
                 self.creations.push(Creation {
                     line: self.lines.number(),
                     class: *class,
-                    arguments: arguments.len(),
+                    arguments: arguments.count(),
                 });
             }
             code.push(statement);

@@ -3,7 +3,7 @@
 
 use crate::code::Statement;
 use crate::configuration::{Call, Configuration, Label, ObjectNumber, Stage, VARIABLES};
-use crate::expression::{ExpressionId, Surroundings, Variable};
+use crate::expression::{Arguments, ExpressionId, Surroundings, Variable};
 use crate::model::Model;
 use crate::refusal::Refusal;
 
@@ -89,7 +89,7 @@ fn is_ready(model: &Model, configuration: &Configuration, label: Label) -> Resul
     match frame.statement {
         Statement::Await(guard) => model
             .trees
-            .enabled(*guard, &frame.surroundings)
+            .enabled(guard, &frame.surroundings)
             .ok_or(Refusal::OutOfRange),
         _ => Ok(true),
     }
@@ -105,7 +105,7 @@ fn deliver(configuration: &mut Configuration, label: Label) -> Result<(), Refusa
 /// A call at its line, and what its expressions are worked out in.
 struct Frame<'m, 'c> {
     model: &'m Model,
-    statement: &'m Statement,
+    statement: Statement,
     surroundings: Surroundings<'c>,
 }
 
@@ -121,7 +121,7 @@ impl<'m, 'c> Frame<'m, 'c> {
         let statement = method.code.get(usize::from(call.line));
         Ok(Frame {
             model,
-            statement: statement.ok_or(Refusal::PastTheEnd)?,
+            statement: *statement.ok_or(Refusal::PastTheEnd)?,
             surroundings: Surroundings {
                 configuration,
                 object_number: call.callee,
@@ -138,9 +138,9 @@ impl<'m, 'c> Frame<'m, 'c> {
 
     /// The arguments from variable 0 on; the text has tested that there are no
     /// more of them than variables.
-    fn arguments(&self, arguments: &[ExpressionId]) -> Result<[i32; VARIABLES], Refusal> {
+    fn arguments(&self, list: Arguments) -> Result<[i32; VARIABLES], Refusal> {
         let mut values = [0; VARIABLES];
-        for (value, argument) in values.iter_mut().zip(arguments) {
+        for (value, argument) in values.iter_mut().zip(self.model.trees.arguments(list)) {
             *value = self.value(*argument)?;
         }
         Ok(values)
@@ -163,13 +163,13 @@ fn exec(
         Statement::If {
             condition,
             otherwise,
-        } => jump(frame.value(*condition)?, next, *otherwise),
-        Statement::While { condition, after } => jump(frame.value(*condition)?, next, *after),
-        Statement::Else { after } => *after,
-        Statement::Od { back } => *back,
+        } => jump(frame.value(condition)?, next, otherwise),
+        Statement::While { condition, after } => jump(frame.value(condition)?, next, after),
+        Statement::Else { after } => after,
+        Statement::Od { back } => back,
         Statement::Set { target, value } => {
-            let value = frame.value(*value)?;
-            store(configuration, label, *target, value);
+            let value = frame.value(value)?;
+            store(configuration, label, target, value);
             next
         }
         Statement::New {
@@ -178,8 +178,8 @@ fn exec(
             arguments,
         } => {
             let attributes = frame.arguments(arguments)?;
-            let created = create(model, configuration, *class, attributes)?;
-            store(configuration, label, *target, created.cell());
+            let created = create(model, configuration, class, attributes)?;
+            store(configuration, label, target, created.cell());
             next
         }
         Statement::Call {
@@ -188,24 +188,24 @@ fn exec(
             method,
             arguments,
         } => {
-            let callee = frame.value(*callee)?;
+            let callee = frame.value(callee)?;
             let locals = frame.arguments(arguments)?;
-            let args = arguments.len() as u8;
-            let issued = issue(configuration, object, callee, *method, args, locals)?;
-            store(configuration, label, *target, issued.cell());
+            let args = arguments.count() as u8;
+            let issued = issue(configuration, object, callee, method, args, locals)?;
+            store(configuration, label, target, issued.cell());
             next
         }
         Statement::Get {
             label: named,
             target,
         } => {
-            let named = frame.surroundings.variable(*named);
+            let named = frame.surroundings.variable(named);
             let value = take(configuration, object, named)?;
-            store(configuration, label, *target, value);
+            store(configuration, label, target, value);
             next
         }
         Statement::Await(guard) => {
-            let enabled = model.trees.enabled(*guard, &frame.surroundings);
+            let enabled = model.trees.enabled(guard, &frame.surroundings);
             if enabled.ok_or(Refusal::OutOfRange)? {
                 configuration.call_mut(label).cleared = false;
                 next
@@ -215,7 +215,7 @@ fn exec(
             }
         }
         Statement::Return(value) => {
-            let value = frame.value(*value)?;
+            let value = frame.value(value)?;
             finish(configuration, object, label, value);
             return Ok(());
         }

@@ -70,19 +70,13 @@ impl<'t> Lines<'t> {
         if self.rest.is_empty() {
             return Err(self.refused(Refusal::WrongKey));
         }
-        // One byte past the limit is enough to know that a line is too long.
-        let length = self
-            .rest
-            .iter()
-            .take(LINE_BYTES + 1)
-            .take_while(|byte| matches!(byte, 32..=126))
-            .count();
-        if length > LINE_BYTES || self.rest.get(length) != Some(&b'\n') {
-            return Err(self.refused(Refusal::BrokenLine));
-        }
-        let line = &self.rest[..length];
-        self.rest = &self.rest[length + 1..];
-        Ok(line)
+        // A line that is good ends within this many bytes, its LF among them.
+        let window = &self.rest[..self.rest.len().min(LINE_BYTES + 1)];
+        let end = window.iter().position(|byte| !matches!(byte, 32..=126));
+        let end = end.filter(|end| window[*end] == b'\n');
+        let end = end.ok_or_else(|| self.refused(Refusal::BrokenLine))?;
+        self.rest = &self.rest[end + 1..];
+        Ok(&window[..end])
     }
 }
 

@@ -46,7 +46,9 @@ fn a_verdict_is_about_its_line() {
         let verdict = judge(&damaged);
         let is_late = verdict.number == 5 && {
             // A wrong count of arguments is judged last, so it does depend on the rest.
-            let line = damaged.split(|byte| *byte == b'\n').nth(verdict.line as usize - 1);
+            let line = damaged
+                .split(|byte| *byte == b'\n')
+                .nth(verdict.line as usize - 1);
             line.is_some_and(|line| line.starts_with(b"code=new "))
         };
         if verdict.number < 2 || is_late {
@@ -58,7 +60,12 @@ fn a_verdict_is_about_its_line() {
             .flatten()
             .copied()
             .collect();
-        assert_eq!(judge(&cut), verdict, "{}", String::from_utf8_lossy(&damaged));
+        assert_eq!(
+            judge(&cut),
+            verdict,
+            "{}",
+            String::from_utf8_lossy(&damaged)
+        );
     }
 }
 
@@ -118,6 +125,9 @@ fn damaged_cells() {
             }
         }
     }
-    assert!(met[0] >= 500 && met[10] >= 100 && met[11] >= 5_000, "{met:?}");
+    assert!(
+        met[0] >= 500 && met[10] >= 100 && met[11] >= 5_000,
+        "{met:?}"
+    );
     println!("met {met:?}");
 }

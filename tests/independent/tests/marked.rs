@@ -6,22 +6,70 @@ use common::*;
 use independent::{drive, judge, run, runner, step, Choice, Drive};
 
 const CHOICES: [Choice; 16] = [
-    Choice { kind: EXEC, number: 1 },
-    Choice { kind: EXEC, number: 1 },
-    Choice { kind: EXEC, number: 1 },
-    Choice { kind: EXEC, number: 1 },
-    Choice { kind: START, number: 1 },
-    Choice { kind: ARRIVE, number: 2 },
-    Choice { kind: BIND, number: 2 },
-    Choice { kind: START, number: 2 },
-    Choice { kind: EXEC, number: 2 },
-    Choice { kind: EXEC, number: 2 },
-    Choice { kind: START, number: 1 },
-    Choice { kind: DELIVER, number: 2 },
-    Choice { kind: START, number: 1 },
-    Choice { kind: EXEC, number: 1 },
-    Choice { kind: EXEC, number: 1 },
-    Choice { kind: EXEC, number: 1 },
+    Choice {
+        kind: EXEC,
+        number: 1,
+    },
+    Choice {
+        kind: EXEC,
+        number: 1,
+    },
+    Choice {
+        kind: EXEC,
+        number: 1,
+    },
+    Choice {
+        kind: EXEC,
+        number: 1,
+    },
+    Choice {
+        kind: START,
+        number: 1,
+    },
+    Choice {
+        kind: ARRIVE,
+        number: 2,
+    },
+    Choice {
+        kind: BIND,
+        number: 2,
+    },
+    Choice {
+        kind: START,
+        number: 2,
+    },
+    Choice {
+        kind: EXEC,
+        number: 2,
+    },
+    Choice {
+        kind: EXEC,
+        number: 2,
+    },
+    Choice {
+        kind: START,
+        number: 1,
+    },
+    Choice {
+        kind: DELIVER,
+        number: 2,
+    },
+    Choice {
+        kind: START,
+        number: 1,
+    },
+    Choice {
+        kind: EXEC,
+        number: 1,
+    },
+    Choice {
+        kind: EXEC,
+        number: 1,
+    },
+    Choice {
+        kind: EXEC,
+        number: 1,
+    },
 ];
 const ANSWERS: [i32; 16] = [0, 0, 0, 27, 25, 0, 0, 0, 0, 0, 25, 0, 0, 0, 0, 0];
 
@@ -58,9 +106,18 @@ fn the_session_by_the_runner() {
 
 #[test]
 fn drives() {
-    for (budget, steps, quiet) in [(12, 12, false), (13, 13, true), (0, 0, false), (14, 13, true)] {
+    for (budget, steps, quiet) in [
+        (12, 12, false),
+        (13, 13, true),
+        (0, 0, false),
+        (14, 13, true),
+    ] {
         let mut cells = started(SESSION);
-        let expected = Drive { verdict: accepted(), steps, quiet };
+        let expected = Drive {
+            verdict: accepted(),
+            steps,
+            quiet,
+        };
         assert_eq!(drive(SESSION.as_bytes(), &mut cells, budget), expected);
     }
 }

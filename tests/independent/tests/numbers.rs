@@ -58,7 +58,11 @@ fn every_number() {
         (2, 1, Asked::Text(b"creol=1".to_vec())),
         (3, 2, Asked::Text(b"creol=1\nclass=1\n".to_vec())),
         (4, 2, Asked::Text(b"creol=1\nclasses=17\n".to_vec())),
-        (5, CODE_LINE, Asked::Text(alone(&["set a0", "return 0"]).into())),
+        (
+            5,
+            CODE_LINE,
+            Asked::Text(alone(&["set a0", "return 0"]).into()),
+        ),
         (6, CODE_LINE, Asked::Text(alone(&["od", "return 0"]).into())),
         (10, 0, Asked::Cells(CELLS - 1, 0)),
         (11, 0, Asked::Cells(CELLS, 0)),
@@ -67,15 +71,23 @@ fn every_number() {
         (14, 0, Asked::Budget),
         (20, 0, in_session(&[(ARRIVE, 1)])),
         (21, 0, after_call(&[(BIND, 2)])),
-        (22, 0, Asked::Last(
-            alone(&["call a0 self 7", "return 0"]),
-            vec![(EXEC, 1), (ARRIVE, 2), (BIND, 2)],
-        )),
+        (
+            22,
+            0,
+            Asked::Last(
+                alone(&["call a0 self 7", "return 0"]),
+                vec![(EXEC, 1), (ARRIVE, 2), (BIND, 2)],
+            ),
+        ),
         (23, 0, after_call(&[(START, 2)])),
-        (24, 0, Asked::Last(
-            alone(&["call a0 self 0", "return 0"]),
-            vec![(EXEC, 1), (ARRIVE, 2), (BIND, 2), (START, 2)],
-        )),
+        (
+            24,
+            0,
+            Asked::Last(
+                alone(&["call a0 self 0", "return 0"]),
+                vec![(EXEC, 1), (ARRIVE, 2), (BIND, 2), (START, 2)],
+            ),
+        ),
         (25, 0, after_call(&[(EXEC, 1), (START, 1)])),
         (26, 0, after_call(&[(DELIVER, 2)])),
         (27, 0, after_call(&[(EXEC, 2)])),
@@ -90,6 +102,10 @@ fn every_number() {
         assert_eq!(ask(asked), refused(*number, *line));
     }
     let numbers: Vec<u8> = table.iter().map(|(number, ..)| *number).collect();
-    let all: Vec<u8> = (0..=6).chain(10..=14).chain(20..=27).chain(29..=33).collect();
+    let all: Vec<u8> = (0..=6)
+        .chain(10..=14)
+        .chain(20..=27)
+        .chain(29..=33)
+        .collect();
     assert_eq!(numbers, all);
 }

@@ -44,14 +44,23 @@ fn check_step(text: &[u8], model: &Model, before: &[i32], after: &[i32]) {
     let rows_after = Configuration::decode(after).expect("rows");
     let show = || String::from_utf8_lossy(text).into_owned();
     assert!(rows_after.is_of(model), "{}", show());
-    assert_ne!(before, after, "an accepted step changes something\n{}", show());
+    assert_ne!(
+        before,
+        after,
+        "an accepted step changes something\n{}",
+        show()
+    );
     assert!(rows_after.objects().len() - rows_before.objects().len() <= 1);
     assert!(rows_after.calls().len() - rows_before.calls().len() <= 1);
     for (object, earlier) in rows_after.objects().iter().zip(rows_before.objects()) {
         assert_eq!(object.class, earlier.class);
     }
     for (call, earlier) in rows_after.calls().iter().zip(rows_before.calls()) {
-        assert!(may_become(earlier, call), "{earlier:?}\n{call:?}\n{}", show());
+        assert!(
+            may_become(earlier, call),
+            "{earlier:?}\n{call:?}\n{}",
+            show()
+        );
     }
     for call in &rows_after.calls()[rows_before.calls().len()..] {
         let begins_with = match call.caller {
@@ -111,7 +120,12 @@ fn steps_keep_what_they_must() {
     for seed in 0..RUNS {
         let mut random = Random::new(seed);
         let text = generate::text(&mut random);
-        assert_eq!(judge(&text), accepted(), "{}", String::from_utf8_lossy(&text));
+        assert_eq!(
+            judge(&text),
+            accepted(),
+            "{}",
+            String::from_utf8_lossy(&text)
+        );
         let model = Model::read(&text).expect("a good text");
         let mut cells = vec![-1; CELLS];
         assert_eq!(start(&text, &mut cells), accepted());
@@ -134,7 +148,9 @@ fn steps_keep_what_they_must() {
             }
         }
         let rows = Configuration::decode(&cells).expect("rows");
-        rows.calls().iter().for_each(|call| met.stages[call.stage as usize] += 1);
+        rows.calls()
+            .iter()
+            .for_each(|call| met.stages[call.stage as usize] += 1);
         let taken = |call: &Call| call.stage == Stage::Taken && call.caller.is_some();
         met.exchanges += usize::from(rows.calls().iter().any(taken));
     }
@@ -145,12 +161,24 @@ fn steps_keep_what_they_must() {
 fn check_reach(met: &Met) {
     let refusals = [12].into_iter().chain(20..=33);
     for number in refusals.filter(|number| *number != 28) {
-        assert!(met.answers[number] >= 20, "number {number}: {:?}", met.answers);
+        assert!(
+            met.answers[number] >= 20,
+            "number {number}: {:?}",
+            met.answers
+        );
     }
     assert_eq!(met.answers[28], 0);
     assert_eq!(met.answers[11], 0);
-    assert!(met.performed.iter().all(|count| *count >= 200), "{:?}", met.performed);
-    assert!(met.stages[1..].iter().all(|count| *count >= 100), "{:?}", met.stages);
+    assert!(
+        met.performed.iter().all(|count| *count >= 200),
+        "{:?}",
+        met.performed
+    );
+    assert!(
+        met.stages[1..].iter().all(|count| *count >= 100),
+        "{:?}",
+        met.stages
+    );
     assert!(met.exchanges >= RUNS as usize / 8, "{}", met.exchanges);
     let answers: usize = met.answers.iter().sum();
     assert!(met.answers[0] >= answers / 5, "{:?}", met.answers);
@@ -184,7 +212,11 @@ fn a_run_is_its_steps() {
 /// The first accepted choice in the drive's order, by the entry step.
 fn first_accepted(text: &[u8], cells: &mut [i32]) -> bool {
     for kind in 1..=5 {
-        let last = if kind == common::EXEC { cells[0] } else { cells[1] };
+        let last = if kind == common::EXEC {
+            cells[0]
+        } else {
+            cells[1]
+        };
         for number in 1..=last {
             if step(text, cells, kind, number).is_accepted() {
                 return true;

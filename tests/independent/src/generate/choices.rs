@@ -90,7 +90,18 @@ fn any(random: &mut Random, cells: &[i32]) -> Choice {
 
 fn wild(random: &mut Random) -> Choice {
     const NUMBERS: [i32; 12] = [
-        i32::MIN, -65_536, -256, -1, 0, 1, 2, 33, 129, 256, 65_537, i32::MAX,
+        i32::MIN,
+        -65_536,
+        -256,
+        -1,
+        0,
+        1,
+        2,
+        33,
+        129,
+        256,
+        65_537,
+        i32::MAX,
     ];
     let kind = if random.percent(50) {
         random.between(1, 5) as i32

@@ -78,8 +78,16 @@ fn damaged_number(random: &mut Random, text: &[u8]) -> Vec<u8> {
             7 => format!("0{number}"),
             8 => random
                 .pick(&[
-                    "255", "256", "257", "65536", "4294967296", "4294967297", "2147483648",
-                    "18446744073709551616", "18446744073709551617", "99999999999999999999999999",
+                    "255",
+                    "256",
+                    "257",
+                    "65536",
+                    "4294967296",
+                    "4294967297",
+                    "2147483648",
+                    "18446744073709551616",
+                    "18446744073709551617",
+                    "99999999999999999999999999",
                 ])
                 .to_string(),
             9 => random
@@ -100,18 +108,43 @@ fn damaged_code(random: &mut Random, text: &[u8]) -> Vec<u8> {
             0 | 1 => {
                 return random
                     .pick(&[
-                        "if 1", "else", "fi", "while 1", "od", "skip", "return 0", "skip ", "",
-                        "await wait", "await (1)", "return 1<2<3", "return ((((((((1))))))))",
-                        "return (((((((((1)))))))))", "await (((((((([1]))))))))",
-                        "await ((((((([1])))))))", "return 2147483648", "return 2147483647",
-                        "return 01", "new a0 99", "new a0 0", "new a0 0 1", "call a0 1 8",
-                        "call a0 1 7 1,2,3,4", "call a0 1 0 1,2,3,4,5", "get a0 v0", "get a0",
+                        "if 1",
+                        "else",
+                        "fi",
+                        "while 1",
+                        "od",
+                        "skip",
+                        "return 0",
+                        "skip ",
+                        "",
+                        "await wait",
+                        "await (1)",
+                        "return 1<2<3",
+                        "return ((((((((1))))))))",
+                        "return (((((((((1)))))))))",
+                        "await (((((((([1]))))))))",
+                        "await ((((((([1])))))))",
+                        "return 2147483648",
+                        "return 2147483647",
+                        "return 01",
+                        "new a0 99",
+                        "new a0 0",
+                        "new a0 0 1",
+                        "call a0 1 8",
+                        "call a0 1 7 1,2,3,4",
+                        "call a0 1 0 1,2,3,4,5",
+                        "get a0 v0",
+                        "get a0",
                     ])
                     .as_bytes()
                     .to_vec();
             }
             2 => value.extend_from_slice(b",1"),
-            3 => value.extend_from_slice(random.pick(&[" ", " 1", "+1", "|wait", "?", ")"]).as_bytes()),
+            3 => value.extend_from_slice(
+                random
+                    .pick(&[" ", " 1", "+1", "|wait", "?", ")"])
+                    .as_bytes(),
+            ),
             4 => value.truncate(random.below(value.len() + 1)),
             _ => {
                 let place = random.below(value.len() + 1);
@@ -161,7 +194,11 @@ fn damaged_length(random: &mut Random, mut text: Vec<u8>) -> Vec<u8> {
             text
         }
         2 => {
-            text.extend_from_slice(random.pick(&["\n", "x", "x\n", "code=skip\n", "class=1\n"]).as_bytes());
+            text.extend_from_slice(
+                random
+                    .pick(&["\n", "x", "x\n", "code=skip\n", "class=1\n"])
+                    .as_bytes(),
+            );
             text
         }
         3 => {

@@ -45,8 +45,8 @@ pub(super) fn code(
     if is_run {
         writer.opening(room);
     }
-    if writer.random.percent(4) && room >= 2 * DEEPEST {
-        writer.tower(room.min(3 * DEEPEST));
+    if writer.random.percent(8) {
+        writer.tower(room);
     }
     writer.block(room, DEEPEST);
     let value = writer.value();
@@ -345,7 +345,11 @@ impl Writer<'_> {
         if role == Role::Object(self.class) {
             fitting.push("self".to_string());
         }
-        if fitting.is_empty() || self.random.percent(if role == Role::Number { 50 } else { 5 }) {
+        if fitting.is_empty()
+            || self
+                .random
+                .percent(if role == Role::Number { 50 } else { 5 })
+        {
             return expression(self.random, self.limits, ARGUMENT_BYTES);
         }
         self.random.pick(&fitting).clone()

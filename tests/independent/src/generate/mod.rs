@@ -12,6 +12,6 @@ mod terms;
 
 pub use choices::{choice, choices, configuration, reached};
 pub use damage::{damaged_cells, damaged_text};
-pub use model::{long_text, text};
+pub use model::{large_text, long_text, text};
 pub use random::Random;
 pub use terms::{expression, guard, noise};

@@ -2,10 +2,10 @@
 
 use std::fmt::{Display, Write};
 
-use crate::text::TEXT_BYTES;
+use crate::text::{Limits, TEXT_BYTES};
 
-use super::method;
 use super::random::Random;
+use super::{method, terms};
 
 /// All `lines=` together.
 const MODEL_LINES: usize = 512;
@@ -46,19 +46,21 @@ pub fn text(random: &mut Random) -> Vec<u8> {
     let mut scale = random.weighted(&[0, 45, 35, 15, 5]);
     loop {
         let plan = plan(random, scale);
+        let mut methods_left: usize = plan.classes.iter().map(|class| class.methods.len()).sum();
         let mut lines_left = MODEL_LINES;
         let mut codes = Vec::new();
         for (class, class_plan) in plan.classes.iter().enumerate() {
             for method in 0..class_plan.methods.len() {
-                let room = method_room(random, scale).min(lines_left);
+                // Each method still to come needs its `return`.
+                methods_left -= 1;
+                let room = method_room(random, scale).min(lines_left - methods_left);
                 let code = method::code(random, &plan, class, method, room);
-                lines_left = lines_left.saturating_sub(code.len());
+                lines_left -= code.len();
                 codes.push(code);
             }
         }
-        let lines: usize = codes.iter().map(Vec::len).sum();
         let text = write(&plan, &codes);
-        if lines <= MODEL_LINES && text.len() <= TEXT_BYTES {
+        if text.len() <= TEXT_BYTES {
             return text;
         }
         scale = scale.saturating_sub(1);
@@ -95,6 +97,44 @@ pub fn long_text(random: &mut Random, lines: usize) -> Vec<u8> {
         });
         methods -= count;
     }
+    write(&Plan { classes }, &codes)
+}
+
+/// A valid text close to the longest there is, its lines evenly long.
+pub fn large_text(random: &mut Random) -> Vec<u8> {
+    const LONGEST: usize = 50;
+    let limits = Limits {
+        attrs: 8,
+        locals: 8,
+    };
+    let mut codes = Vec::new();
+    for _ in 0..8 {
+        let mut code = Vec::new();
+        for _ in 0..63 {
+            let mut sum = terms::expression(random, limits, 4);
+            while sum.len() + 8 <= LONGEST {
+                let join = *random.pick(&['+', '-', '*']);
+                let next = terms::expression(random, limits, 5);
+                sum += &format!("{join}({next})");
+            }
+            let target = random.pick(&["a0", "a7", "v0", "v7"]);
+            code.push(format!("set {target} ({sum})"));
+        }
+        code.push("return a0".to_string());
+        codes.push(code);
+    }
+    let methods = (0..codes.len()).map(|_| MethodPlan {
+        params: Vec::new(),
+        locals: 8,
+        is_leaf: true,
+    });
+    let class = ClassPlan {
+        attrs: 8,
+        given: Vec::new(),
+        run: true,
+        methods: methods.collect(),
+    };
+    let classes = vec![class];
     write(&Plan { classes }, &codes)
 }
 

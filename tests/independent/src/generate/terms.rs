@@ -18,7 +18,13 @@ const EDGES: [&str; 8] = [
 
 /// A valid expression of at most so many bytes.
 pub fn expression(random: &mut Random, limits: Limits, bytes: usize) -> String {
-    fitting(random, bytes, "0", |terms| terms.expression(BRACKETS), limits)
+    fitting(
+        random,
+        bytes,
+        "0",
+        |terms| terms.expression(BRACKETS),
+        limits,
+    )
 }
 
 /// A valid guard of at most so many bytes, these being at least 4.
@@ -29,9 +35,42 @@ pub fn guard(random: &mut Random, limits: Limits, bytes: usize) -> String {
 /// Bytes of the grammar in no order that it knows.
 pub fn noise(random: &mut Random, bytes: usize) -> Vec<u8> {
     const PIECES: [&str; 36] = [
-        "a0", "a1", "a7", "v0", "v1", "v7", "a", "v", "8", "9", "0", "1", "7", "00", "self",
-        "caller", "sel", "call", "wait", "wai", "?", "(", "(", ")", "[", "]", "+", "-", "*", "<",
-        "=", "&", "|", " ", ",", "2147483648",
+        "a0",
+        "a1",
+        "a7",
+        "v0",
+        "v1",
+        "v7",
+        "a",
+        "v",
+        "8",
+        "9",
+        "0",
+        "1",
+        "7",
+        "00",
+        "self",
+        "caller",
+        "sel",
+        "call",
+        "wait",
+        "wai",
+        "?",
+        "(",
+        "(",
+        ")",
+        "[",
+        "]",
+        "+",
+        "-",
+        "*",
+        "<",
+        "=",
+        "&",
+        "|",
+        " ",
+        ",",
+        "2147483648",
     ];
     let mut noise = Vec::new();
     for _ in 0..random.below(8) {
@@ -136,7 +175,10 @@ impl Terms<'_> {
     fn atom(&mut self, brackets: u32) -> String {
         let bracketed = if brackets == 0 { 0 } else { 1 };
         let round = if self.wild { 40 } else { 8 };
-        match self.random.weighted(&[15, 40, 30 * bracketed, round * bracketed]) {
+        match self
+            .random
+            .weighted(&[15, 40, 30 * bracketed, round * bracketed])
+        {
             0 => "wait".to_string(),
             1 => match variable(self.random, self.limits) {
                 Some(variable) => format!("{variable}?"),

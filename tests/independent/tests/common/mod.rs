@@ -103,6 +103,21 @@ pub fn judge_code(value: &str) -> Verdict {
     judge(alone(&[value, "return 0"]).as_bytes())
 }
 
+pub const GOOD: (u8, u32) = (0, 0);
+
+/// Number and line of the verdict on a text.
+pub fn verdict(text: &str) -> (u8, u32) {
+    let verdict = judge(text.as_bytes());
+    (verdict.number, verdict.line)
+}
+
+/// The session with one line changed, that line counted from 1.
+pub fn session_with(line: usize, replacement: &str) -> String {
+    let mut lines: Vec<&str> = SESSION.lines().collect();
+    lines[line - 1] = replacement;
+    lines.join("\n") + "\n"
+}
+
 pub fn started(text: &str) -> Vec<i32> {
     let mut cells = vec![-1; CELLS];
     assert_eq!(start(text.as_bytes(), &mut cells), accepted(), "{text}");
