@@ -63,23 +63,34 @@ respects-ended h s (got at a) = go (eqb at (length s))
     go false = refl
 respects-ended h s (bad at) = refl
 
+-- items joined by operators: no operator stands at the place, or one does, and the items are "grouped from the left"
+module _ {O A : Type 0} (operator : ℕ → Option O) (apply : O → A → A → A) (s : Text) (item : ℕ → Parsed A) (more at : ℕ) (a : A) where
+  pub joined-none : operator (byteAt s at) ≡ none → joined operator apply s item (suc more) at a ≡ got at a
+  unfolding joined
+  joined-none e = rw (e, joined)
+
+  pub joined-some : (o : O) → operator (byteAt s at) ≡ some o
+      → joined operator apply s item (suc more) at a ≡ next (item (at + 1)) (λ p b. joined operator apply s item more p (apply o a b))
+  unfolding joined
+  joined-some o e = rw (e, joined)
+
 module _ {O A B : Type 0} (h : A → B) (operator : ℕ → Option O) (f : O → A → A → A) (g : O → B → B → B) (s : Text)
     (respects : (o : O) (a b : A) → h (f o a b) ≡ g o (h a) (h b))
     (item : ℕ → Parsed A) (item′ : ℕ → Parsed B) (items : (at : ℕ) → mapped h (item at) ≡ item′ at) where
   -- a map that respects the operators, past items that are joined by them
   respects-joined : (more at : ℕ) (a : A) → mapped h (joined operator f s item more at a) ≡ joined operator g s item′ more at (h a)
-  unfolding mapped joined
-  respects-joined zero at a = refl
-  respects-joined (suc more) at a = go (operator (byteAt s at)) (respects-joined more)
+  respects-joined zero at a = unfold joined mapped in refl
+  respects-joined (suc more) at a = go (operator (byteAt s at)) refl (respects-joined more)
     where
-      go : (o : Option O) → ((p : ℕ) (b : A) → mapped h (joined operator f s item more p b) ≡ joined operator g s item′ more p (h b))
-          → mapped h (elim o [ none ↦ got at a | some w ↦ next (item (at + 1)) (λ p b. joined operator f s item more p (f w a b)) ])
-          ≡ elim o [ none ↦ got at (h a) | some w ↦ next (item′ (at + 1)) (λ p b. joined operator g s item′ more p (g w (h a) b)) ]
-      go none rest = refl
-      go (some w) rest =
-          respects-next h h (item (at + 1)) _ (λ p b. joined operator g s item′ more p (g w (h a) b))
-          (λ p b. rest p (f w a b) ∙ ap (joined operator g s item′ more p) (respects w a b))
-          ∙ ap (λ q. next q (λ p b. joined operator g s item′ more p (g w (h a) b))) (items (at + 1))
+      go : (o : Option O) → operator (byteAt s at) ≡ o
+          → ((p : ℕ) (b : A) → mapped h (joined operator f s item more p b) ≡ joined operator g s item′ more p (h b))
+          → mapped h (joined operator f s item (suc more) at a) ≡ joined operator g s item′ (suc more) at (h a)
+      go none e rest = rw (joined-none operator f s item more at a e, joined-none operator g s item′ more at (h a) e) (mapped-got h at a)
+      go (some o) e rest =
+          rw (joined-some operator f s item more at a o e, joined-some operator g s item′ more at (h a) o e)
+          (respects-next h h (item (at + 1)) _ (λ p b. joined operator g s item′ more p (g o (h a) b))
+          (λ p b. rest p (f o a b) ∙ ap (joined operator g s item′ more p) (respects o a b))
+          ∙ ap (λ q. next q (λ p b. joined operator g s item′ more p (g o (h a) b))) (items (at + 1)))
 
   pub respects-series : (more at : ℕ) → mapped h (series operator f s item more at) ≡ series operator g s item′ more at
   unfolding series
