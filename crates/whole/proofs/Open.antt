@@ -4,5 +4,5 @@ use Rattle.whole.specs.Whole
 
 unfoldable pub whole-open : Unit {0}
 unfolding Plain.allTo Plain.allBelow Whole.inRange Whole.within Whole.eqZ Whole.apply Whole.applied Whole.isTrue Whole.natural
-    Whole.nat Whole.between
+    Whole.asNatural Whole.nat Whole.between
 whole-open = tt

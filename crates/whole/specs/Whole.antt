@@ -7,6 +7,8 @@ use lib.IntN.{ℤ, pos, negsuc, _+ℤ_, _-ℤ_, _*ℤ_}
 use lib.Signed.{mag, ltZ, leZ}
 use Rattle.whole.specs.declared.Operator.{Operator}
 use Rattle.whole.specs.declared.Operator.the-variants.{Plus, Minus, Times, Less, Equal}
+use Rattle.whole.specs.declared.Natural.{Natural}
+use Rattle.whole.specs.declared.Natural.the-variants.{Is, Not}
 use Rattle.whole.specs.declared.Worked.{Worked}
 use Rattle.whole.specs.declared.Worked.the-variants.{Value, OutOfRange}
 
@@ -53,6 +55,11 @@ isTrue z = not (eqZ z (pos 0))
 unfoldable pub natural : ℤ → Option ℕ
 natural (pos n) = some n
 natural (negsuc n) = none
+
+-- the same as the code's enum
+unfoldable pub asNatural : Option ℕ → Natural
+asNatural (some n) = Is n
+asNatural none = Not
 
 -- a cell that is known to be a natural number, as that number
 unfoldable pub nat : ℤ → ℕ
