@@ -1,4 +1,5 @@
 -- The laws of the layout, and what the proofs above cite.
 mod Cases
 pub mod Laws
+pub mod Numbers
 pub mod Open

@@ -32,18 +32,18 @@ taken = 7
 abbrev pub nobody : ℤ
 nobody = pos 0
 
--- a number that was tested, or none
-unfoldable pub tested : Bool → ℤ → Option ℕ
-tested true z = some (nat z)
-tested false z = none
+-- a number that passed a test, or none
+unfoldable pub onlyIf : Bool → ℕ → Option ℕ
+onlyIf true n = some n
+onlyIf false n = none
 
 -- an object number in use: 1..objects
 unfoldable pub objectOf : Cells → ℤ → Option ℕ
-objectOf c z = tested (between (pos 1) (read c objects) z) z
+objectOf c z = onlyIf (between (pos 1) (read c objects) z) (nat z)
 
 -- a label in use: 1..calls
 unfoldable pub labelOf : Cells → ℤ → Option ℕ
-labelOf c z = tested (between (pos 1) (read c calls) z) z
+labelOf c z = onlyIf (between (pos 1) (read c calls) z) (nat z)
 
 -- a call in a stage
 unfoldable pub inStage : Cells → ℕ → ℕ → Bool
@@ -53,9 +53,10 @@ inStage c l s = eqZ (ofCall c l stage) (pos s)
 unfoldable pub staged : Cells → ℕ → ℕ → Cells
 staged c l s = toCall c l stage (pos s)
 
+-- "of stage 6 whose caller is this object"
+unfoldable pub isReply : Cells → ℕ → ℕ → Bool
+isReply c o l = inStage c l replied && eqZ (ofCall c l caller) (pos o)
+
 -- "a label of stage 6 whose caller is this object"
 unfoldable pub replyFor : Cells → ℕ → ℤ → Option ℕ
-replyFor c o z = elim (labelOf c z) [
-  | none ↦ none
-  | some l ↦ tested (inStage c l replied && eqZ (ofCall c l caller) (pos o)) z
-]
+replyFor c o z = elim (labelOf c z) [ none ↦ none | some l ↦ onlyIf (isReply c o l) l ]

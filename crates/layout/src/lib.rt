@@ -1,1 +1,120 @@
-// The cells of a configuration by named places.
+// The cells of a configuration by named places: object numbers and labels, their fields, and whose reply is in.
+ghost use mathlib.Core.Path.{_≡_};
+ghost use Prim.Native.Nat.{_-_};
+ghost use lib.IntN.{pos};
+ghost use lib.ListN.{getD};
+ghost use Rattle.whole.specs.Whole as Whole;
+ghost use Rattle.layout.specs.Layout as Layout;
+ghost use Rattle.layout.specs.Stages as Stages;
+ghost use Rattle.layout.specs.Found as Found;
+
+// "Object numbers and labels are counted apart, and neither stands in for the other." Each is made from a cell only after its test.
+pub struct ObjectNumber(pub u32);
+
+pub struct Label(pub u32);
+
+// A number that is a label in use, or none.
+pub enum LabelFound {
+    At(Label),
+    Nothing,
+}
+
+// Where the rows begin and how wide they are: "Cell 0: objects; cell 1: calls issued. Then 32 object rows of 10", "Then 128 call rows of 16".
+const CALLS: usize = 1;
+
+const FIRST_OBJECT: usize = 2;
+
+const OBJECT_CELLS: usize = 10;
+
+const FIRST_CALL: usize = 322;
+
+const CALL_CELLS: usize = 16;
+
+// Fields of a call row.
+pub const STAGE: u8 = 0;
+
+pub const CALLER: u8 = 1;
+
+pub const CLEARED: u8 = 6;
+
+// A stage: "6 reply in".
+const REPLIED: u32 = 6;
+
+// What stands in a cell; one that is not there reads as 0.
+fn cell(cells: &[i32], at: usize) -> i32
+    ensures { λ r. ⌜ r ≡ getD (now (cells .entry)) at (pos 0) ⌝ }
+{
+    if at < cells.len() { cells[at] } else { 0 }
+}
+
+// How many rows stand before a row that is counted from 1.
+fn before(row: u32) -> usize
+    ensures { λ r. ⌜ r ≡ row - 1 ⌝ }
+{
+    if row == 0 { 0 } else { (row - 1) as usize }
+}
+
+// A field of an object.
+pub fn of_object(cells: &[i32], o: ObjectNumber, field: u8) -> i32
+    ensures { λ r. ⌜ r ≡ Layout.ofObject (now (cells .entry)) (o .0) field ⌝ }
+{
+    cell(
+        cells,
+        FIRST_OBJECT + before(o.0) * OBJECT_CELLS + field as usize,
+    )
+}
+
+// The row of a label.
+fn row_of(l: Label) -> u32
+    ensures { λ r. ⌜ r ≡ l .0 ⌝ }
+{
+    l.0
+}
+
+// A field of a call.
+pub fn of_call(cells: &[i32], l: Label, field: u8) -> i32
+    ensures { λ r. ⌜ r ≡ Layout.ofCall (now (cells .entry)) (l .0) field ⌝ }
+{
+    cell(
+        cells,
+        FIRST_CALL + before(row_of(l)) * CALL_CELLS + field as usize,
+    )
+}
+
+// A number as a label in use.
+pub fn label_of(cells: &[i32], z: i32) -> LabelFound
+    ensures { λ r. ⌜ r ≡ Found.asLabel (Stages.labelOf (now (cells .entry)) z) ⌝ }
+{
+    if whole::between(1, cell(cells, CALLS), z) {
+        LabelFound::At(Label(z as u32))
+    } else {
+        LabelFound::Nothing
+    }
+}
+
+// "of stage 6 whose caller is this object"
+fn is_reply(cells: &[i32], o: ObjectNumber, l: Label) -> bool
+    ensures { λ r. ⌜ r ≡ Stages.isReply (now (cells .entry)) (o .0) (l .0) ⌝ }
+{
+    if whole::is_number(of_call(cells, l, STAGE), REPLIED) {
+        whole::is_number(of_call(cells, l, CALLER), o.0)
+    } else {
+        false
+    }
+}
+
+// "a label of stage 6 whose caller is this object"
+pub fn reply_for(cells: &[i32], o: ObjectNumber, z: i32) -> LabelFound
+    ensures { λ r. ⌜ r ≡ Found.asLabel (Stages.replyFor (now (cells .entry)) (o .0) z) ⌝ }
+{
+    match label_of(cells, z) {
+        LabelFound::Nothing => LabelFound::Nothing,
+        LabelFound::At(l) => {
+            if is_reply(cells, o, l) {
+                LabelFound::At(l)
+            } else {
+                LabelFound::Nothing
+            }
+        }
+    }
+}

@@ -11,9 +11,10 @@ use mir.Syntax.{w32, w64}
 use mir.Val.{SFits, ofZ, toZ}
 use mir.ValLaws.{toZ-ofZ}
 use native.Mathlib.Nat.{mul-le-mul}
+use Rattle.whole.specs.declared.Natural.the-variants.{Is, Not}
 use Rattle.whole.specs.declared.Operator.{Operator}
 use Rattle.whole.specs.declared.Worked.the-variants.{Value, OutOfRange}
-use Rattle.whole.specs.Whole.{inRange, within, eqZ, apply}
+use Rattle.whole.specs.Whole.{inRange, within, eqZ, apply, natural, asNatural}
 
 -- below the least, above the largest, and neither
 pub below-range : (z : ℤ) → ltZ z (negsuc 2147483647) ≡ true → OutOfRange ≡ within z
@@ -102,3 +103,18 @@ same-bits (negsuc a) (negsuc b) hx hy = go (eqb a b) refl
 pub apply-handed : (o p : Operator) (x y : ℤ) → SFits w32 x → SFits w32 y → p ≡ o
     → apply o (toZ w32 (ofZ w32 x)) (toZ w32 (ofZ w32 y)) ≡ apply p x y
 apply-handed o p x y hx hy e = rw (toZ-ofZ w32 x hx, toZ-ofZ w32 y hy, e)
+
+-- a cell that is a natural number is that number, and one that is none is below 0
+pub natural-is : (z : ℤ) (m : ℕ) → asNatural (natural z) ≡ Is m → z ≡ pos m
+unfolding asNatural natural
+natural-is (pos n) m e = cc
+natural-is (negsuc n) m e = cc
+
+pub natural-not : (z : ℤ) (n : ℕ) → asNatural (natural z) ≡ Not → eqZ z (pos n) ≡ false
+unfolding asNatural natural eqZ
+natural-not (pos k) n e = cc
+natural-not (negsuc k) n e = refl
+
+-- a result that was handed on reads back as what it is known to be
+pub handed : (r z : ℤ) → mag r < 2147483648 → r ≡ z → toZ w32 (ofZ w32 r) ≡ z
+handed r z h e = toZ-ofZ w32 r (record { sfits = h }) ∙ e

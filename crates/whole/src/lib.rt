@@ -1,5 +1,6 @@
 // Whole numbers of 32 bits, worked out with the news that a result does not fit.
 ghost use mathlib.Core.Path.{_≡_};
+ghost use lib.IntN.{pos};
 ghost use Rattle.whole.specs.Whole as Whole;
 ghost use Rattle.whole.specs.declared.Operator.the-variants.{Plus, Minus, Times, Less, Equal};
 
@@ -121,4 +122,21 @@ pub fn as_natural(z: i32) -> Natural
         return Natural::Not;
     }
     Natural::Is(z as usize)
+}
+
+// Whether a cell holds a number that is counted from 0.
+pub fn is_number(z: i32, n: u32) -> bool
+    ensures { λ r. ⌜ r ≡ Whole.eqZ z (pos n) ⌝ }
+{
+    match as_natural(z) {
+        Natural::Is(m) => m == n as usize,
+        Natural::Not => false,
+    }
+}
+
+// Whether a number lies between two, both included.
+pub fn between(low: i32, high: i32, z: i32) -> bool
+    ensures { λ r. ⌜ r ≡ Whole.between low high z ⌝ }
+{
+    if low <= z { z <= high } else { false }
 }

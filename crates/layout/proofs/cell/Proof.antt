@@ -1,0 +1,22 @@
+-- `layout::cell` meets its contract. Assumes nothing.
+use borrow.Author.Needs.{needs}
+use lib.IntN.{pos}
+use lib.ListN.{List·getD-eq-default}
+use mathlib.Core.Path.{sym}
+use Rattle.layout.proofs.cell.Statement.{statement}
+use Rattle.layout.proofs.cell.Tie as tie
+
+mul-result : tie.Need-mul-result
+mul-result c = search needs
+
+shared-slice-copy-out-result : tie.Need-shared-slice-copy-out-result
+shared-slice-copy-out-result c = search needs
+
+returns : tie.Need-returns
+returns c = search needs
+
+returns-2 : tie.Need-returns-2
+returns-2 c = sym (List·getD-eq-default (c .before .args .cells .now) (pos 0) (c .if1 .left))
+
+pub cell-spec : {M : Type 1} → statement M
+cell-spec = tie.close (tie.spec mul-result shared-slice-copy-out-result returns returns-2)

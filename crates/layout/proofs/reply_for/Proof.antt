@@ -1,0 +1,56 @@
+-- `layout::reply_for` meets its contract. Assumes nothing.
+use borrow.Author.Needs.{needs}
+use denote.Ref.{now}
+use mathlib.Core.Bool.{Bool, true, false}
+use mathlib.Core.Path.{_≡_, sym, ap, _∙_}
+use mir.Syntax.{w32}
+use mir.ValLaws.{toZ-ofZ}
+use Rattle.layout.proofs.Numbers.{no-label, a-label}
+use Rattle.layout.specs.Found.{asLabel}
+use Rattle.layout.specs.Stages.{labelOf, onlyIf}
+use Rattle.layout.proofs.reply_for.Statement.{statement}
+use Rattle.layout.proofs.reply_for.Tie as tie
+
+-- what was found of the number itself
+found : (c : tie.After-label-of) → c .label-of .result ≡ asLabel (labelOf (now (c .before .args .cells)) (c .before .args .z))
+found c =
+    c .label-of .ensures ∙ ap (λ z. asLabel (labelOf (now (c .before .args .cells)) z)) (toZ-ofZ w32 _ (c .before .fits .z))
+
+label-of-requires : tie.Need-label-of-requires
+label-of-requires c κs = search needs
+
+enum-told : tie.Need-enum-told
+enum-told c = search needs
+
+enum-known-l : tie.Need-enum-known-l
+enum-known-l c = search needs
+
+is-reply-requires : tie.Need-is-reply-requires
+is-reply-requires c κs = search needs
+
+returns : tie.Need-returns
+returns c = no-label _ _ _ (sym (c .enum-told .given .1) ∙ found (c .before .before))
+
+returns-2 : tie.Need-returns-2
+unfolding onlyIf asLabel
+returns-2 c =
+    let l = c .before .before .before .l .given in
+    a-label _ _ _ true (l .0 .0 .0) (sym (l .1) ∙ found (c .before .before .before .before .before)) (sym (c .before .is-reply .ensures) ∙ c .if1 .taken)
+
+returns-3 : tie.Need-returns-3
+unfolding onlyIf asLabel
+returns-3 c =
+    let l = c .before .before .before .l .given in
+    a-label _ _ _ false (l .0 .0 .0) (sym (l .1) ∙ found (c .before .before .before .before .before)) (sym (c .before .is-reply .ensures) ∙ c .if1 .left)
+
+pub reply-for-spec : {M : Type 1} → statement M
+reply-for-spec =
+    tie.close
+    (tie.spec
+    label-of-requires
+    enum-told
+    enum-known-l
+    is-reply-requires
+    returns
+    returns-2
+    returns-3)

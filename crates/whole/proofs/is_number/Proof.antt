@@ -1,0 +1,37 @@
+-- `whole::is_number` meets its contract. Assumes nothing.
+use borrow.Author.Needs.{needs}
+use lib.IntN.{pos}
+use mathlib.Core.Path.{_≡_, refl, sym, ap, _∙_}
+use mir.Syntax.{w32}
+use mir.ValLaws.{toZ-ofZ}
+use Rattle.whole.proofs.Ranges.{natural-is, natural-not}
+use Rattle.whole.specs.Whole.{eqZ, natural, asNatural}
+use Rattle.whole.proofs.is_number.Statement.{statement}
+use Rattle.whole.proofs.is_number.Tie as tie
+
+as-natural-requires : tie.Need-as-natural-requires
+as-natural-requires c κs = search needs
+
+enum-known-m : tie.Need-enum-known-m
+enum-known-m c = search needs
+
+enum-told : tie.Need-enum-told
+enum-told c = search needs
+
+returns : tie.Need-returns
+unfolding eqZ
+returns c =
+    let s = c .before .before .before .before in
+    let n = s .args .n in
+    rw (natural-is (s .args .z) _
+    (ap (λ z. asNatural (natural z)) (sym (toZ-ofZ w32 _ (s .fits .z))) ∙ sym (c .before .before .before .as-natural .ensures) ∙ c .before .m .given .1))
+    refl
+
+returns-2 : tie.Need-returns-2
+returns-2 c =
+    let s = c .before .before .before in
+    sym (natural-not (s .args .z) (s .args .n)
+    (ap (λ z. asNatural (natural z)) (sym (toZ-ofZ w32 _ (s .fits .z))) ∙ sym (c .before .before .as-natural .ensures) ∙ c .enum-told .given .1))
+
+pub is-number-spec : {M : Type 1} → statement M
+is-number-spec = tie.close (tie.spec as-natural-requires enum-known-m enum-told returns returns-2)
