@@ -4,7 +4,7 @@ use mathlib.Core.List.{List, [], _∷_, map}
 use mathlib.Core.Path.{refl}
 use Rattle.whole.proofs.Tables.{Row, _is_, Holds}
 use Rattle.terms.specs.Bytes.{Text, bytes}
-use Rattle.terms.specs.Leaves.{Limits}
+use Rattle.terms.specs.declared.Limits.{Limits}
 use Rattle.terms.specs.Nothing.{nothing, guardNothing}
 use Rattle.terms.specs.Parsed.{Parsed, got, bad, mapped}
 use Rattle.code.specs.Blocks.{Shape, anIf, anElse, aFi, aWhile, anOd, aReturn, plain}

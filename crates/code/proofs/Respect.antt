@@ -11,7 +11,8 @@ use lib.ListN.{length}
 use Rattle.terms.specs.Bytes.{Text, byteAt}
 use Rattle.terms.specs.Expressions.{Reading, brackets, expression}
 use Rattle.terms.specs.Guards.{GuardReading, guard}
-use Rattle.terms.specs.Leaves.{Limits, decimal, variable}
+use Rattle.terms.specs.declared.Limits.{Limits}
+use Rattle.terms.specs.Leaves.{decimal, variable}
 use Rattle.terms.specs.Parsed.{Parsed, got, bad, next, mapped, word, ended, closed}
 use Rattle.terms.specs.Trees.{trees, guardTrees}
 use Rattle.terms.specs.Values.{Surroundings, values, guardValues, valueOf, guardOf}

@@ -10,7 +10,8 @@ use Rattle.terms.specs.declared.Variable.{Variable}
 use Rattle.terms.specs.Bytes.{Text, bytes, byteAt}
 use Rattle.terms.specs.Expressions.{Reading, brackets, expression}
 use Rattle.terms.specs.Guards.{GuardReading, guard}
-use Rattle.terms.specs.Leaves.{Limits, decimal, variable}
+use Rattle.terms.specs.declared.Limits.{Limits}
+use Rattle.terms.specs.Leaves.{decimal, variable}
 use Rattle.terms.specs.Parsed.{Parsed, got, bad, next, mapped, word, ended, closed, series}
 use Rattle.code.specs.Statements.{Statement, skip, set, new, call, get, await, if, else, fi, while, od, return}
 

@@ -8,7 +8,8 @@ use lib.ListN.{length, drop}
 use Rattle.whole.specs.Refusals.{brokenLine, wrongKey, wrongNumber, wrongCode, wrongBlocks}
 use Rattle.layout.specs.Layout as Layout
 use Rattle.terms.specs.Bytes.{Text}
-use Rattle.terms.specs.Leaves.{Limits, decimal}
+use Rattle.terms.specs.declared.Limits.{Limits}
+use Rattle.terms.specs.Leaves.{decimal}
 use Rattle.terms.specs.Parsed.{Parsed, got, bad, word, ended}
 use Rattle.terms.specs.Trees.{trees, guardTrees}
 use Rattle.code.specs.Statements.{Code, skip, set, new, call, get, await, if, else, fi, while, od, return}

@@ -14,7 +14,7 @@ use Rattle.terms.specs.declared.Variable.the-variants.{Attribute}
 use Rattle.terms.specs.Bytes.{Text, bytes}
 use Rattle.terms.specs.Expressions.{expression, brackets}
 use Rattle.terms.specs.Guards.{guard}
-use Rattle.terms.specs.Leaves.{Limits}
+use Rattle.terms.specs.declared.Limits.{Limits}
 use Rattle.terms.specs.Parsed.{Parsed, got, bad}
 use Rattle.terms.specs.Trees.{Expression, number, variable, apply, trees}
 use Rattle.terms.specs.Values.{Surroundings, values, guardValues}

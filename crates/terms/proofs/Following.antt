@@ -6,7 +6,7 @@ use mathlib.Core.Path.{_≡_, refl, sym, ap, _∙_}
 use lib.Dec.{eqb}
 use lib.ListN.{length}
 use Rattle.terms.specs.Bytes.{Text, byteAt}
-use Rattle.terms.specs.Parsed.{Parsed, got, bad, next, mapped, word, ended, closed, joined, series}
+use Rattle.terms.specs.Parsed.{Parsed, got, bad, next, mapped, word, ended, closed, repeated, joining, series}
 
 pub mapped-mapped : {A B C : Type 0} (h : B → C) (k : A → B) (p : Parsed A) → mapped h (mapped k p) ≡ mapped (λ a. h (k a)) p
 unfolding mapped
@@ -31,6 +31,14 @@ pub mapped-next : {A B C : Type 0} (h : B → C) (p : Parsed A) (k : ℕ → A �
 unfolding mapped next
 mapped-next h (got at a) k = refl
 mapped-next h (bad at) k = refl
+
+pub next-of-got : {A B : Type 0} (at : ℕ) (a : A) (k : ℕ → A → Parsed B) → next (got at a) k ≡ k at a
+unfolding next
+next-of-got at a k = refl
+
+pub next-of-bad : {A B : Type 0} (at : ℕ) (k : ℕ → A → Parsed B) → next (bad at) k ≡ bad at
+unfolding next
+next-of-bad at k = refl
 
 pub next-mapped : {A B C : Type 0} (h : A → B) (p : Parsed A) (k : ℕ → B → Parsed C) → next (mapped h p) k ≡ next p (λ at a. k at (h a))
 unfolding mapped next
@@ -63,37 +71,66 @@ respects-ended h s (got at a) = go (eqb at (length s))
     go false = refl
 respects-ended h s (bad at) = refl
 
--- items joined by operators: no operator stands at the place, or one does, and the items are "grouped from the left"
-module _ {O A : Type 0} (operator : ℕ → Option O) (apply : O → A → A → A) (s : Text) (item : ℕ → Parsed A) (more at : ℕ) (a : A) where
-  pub joined-none : operator (byteAt s at) ≡ none → joined operator apply s item (suc more) at a ≡ got at a
-  unfolding joined
-  joined-none e = rw (e, joined)
+-- a repetition stops, or goes on with what its step gives
+module _ {A : Type 0} (step : ℕ → A → Option (Parsed A)) (more at : ℕ) (a : A) where
+  pub repeated-none : step at a ≡ none → repeated step (suc more) at a ≡ got at a
+  unfolding repeated
+  repeated-none e = rw (e, repeated)
 
-  pub joined-some : (o : O) → operator (byteAt s at) ≡ some o
-      → joined operator apply s item (suc more) at a ≡ next (item (at + 1)) (λ p b. joined operator apply s item more p (apply o a b))
-  unfolding joined
-  joined-some o e = rw (e, joined)
+  pub repeated-some : (p : Parsed A) → step at a ≡ some p → repeated step (suc more) at a ≡ next p (repeated step more)
+  unfolding repeated
+  repeated-some p e = rw (e, repeated)
+
+-- items joined by operators: no operator stands at the place, or one does, and the items are "grouped from the left"
+module _ {O A : Type 0} (operator : ℕ → Option O) (apply : O → A → A → A) (s : Text) (item : ℕ → Parsed A) (at : ℕ) (a : A) where
+  pub joining-none : operator (byteAt s at) ≡ none → joining operator apply s item at a ≡ none
+  unfolding joining
+  joining-none e = rw (e, joining)
+
+  pub joining-some : (o : O) → operator (byteAt s at) ≡ some o → joining operator apply s item at a ≡ some (mapped (apply o a) (item (at + 1)))
+  unfolding joining
+  joining-some o e = rw (e, joining)
+
+-- a map past a repetition whose steps it respects
+module _ {A B : Type 0} (h : A → B) (step : ℕ → A → Option (Parsed A)) (step′ : ℕ → B → Option (Parsed B))
+    (stops : (at : ℕ) (a : A) → step at a ≡ none → step′ at (h a) ≡ none)
+    (goes : (at : ℕ) (a : A) (p : Parsed A) → step at a ≡ some p → step′ at (h a) ≡ some (mapped h p)) where
+  pub respects-repeated : (more at : ℕ) (a : A) → mapped h (repeated step more at a) ≡ repeated step′ more at (h a)
+  respects-repeated zero at a = unfold repeated mapped in refl
+  respects-repeated (suc more) at a = go (step at a) refl (respects-repeated more)
+    where
+      go : (o : Option (Parsed A)) → step at a ≡ o → ((at : ℕ) (a : A) → mapped h (repeated step more at a) ≡ repeated step′ more at (h a))
+          → mapped h (repeated step (suc more) at a) ≡ repeated step′ (suc more) at (h a)
+      go none e rest = rw (repeated-none step more at a e, repeated-none step′ more at (h a) (stops at a e)) (mapped-got h at a)
+      go (some p) e rest =
+          rw (repeated-some step more at a p e, repeated-some step′ more at (h a) (mapped h p) (goes at a p e))
+          (respects-next h h p _ _ rest)
 
 module _ {O A B : Type 0} (h : A → B) (operator : ℕ → Option O) (f : O → A → A → A) (g : O → B → B → B) (s : Text)
     (respects : (o : O) (a b : A) → h (f o a b) ≡ g o (h a) (h b))
     (item : ℕ → Parsed A) (item′ : ℕ → Parsed B) (items : (at : ℕ) → mapped h (item at) ≡ item′ at) where
-  -- a map that respects the operators, past items that are joined by them
-  respects-joined : (more at : ℕ) (a : A) → mapped h (joined operator f s item more at a) ≡ joined operator g s item′ more at (h a)
-  respects-joined zero at a = unfold joined mapped in refl
-  respects-joined (suc more) at a = go (operator (byteAt s at)) refl (respects-joined more)
+  -- a map that respects the operators, past one item more
+  stops-alike : (at : ℕ) (a : A) → joining operator f s item at a ≡ none → joining operator g s item′ at (h a) ≡ none
+  stops-alike at a e = go (operator (byteAt s at)) refl
     where
-      go : (o : Option O) → operator (byteAt s at) ≡ o
-          → ((p : ℕ) (b : A) → mapped h (joined operator f s item more p b) ≡ joined operator g s item′ more p (h b))
-          → mapped h (joined operator f s item (suc more) at a) ≡ joined operator g s item′ (suc more) at (h a)
-      go none e rest = rw (joined-none operator f s item more at a e, joined-none operator g s item′ more at (h a) e) (mapped-got h at a)
-      go (some o) e rest =
-          rw (joined-some operator f s item more at a o e, joined-some operator g s item′ more at (h a) o e)
-          (respects-next h h (item (at + 1)) _ (λ p b. joined operator g s item′ more p (g o (h a) b))
-          (λ p b. rest p (f o a b) ∙ ap (joined operator g s item′ more p) (respects o a b))
-          ∙ ap (λ q. next q (λ p b. joined operator g s item′ more p (g o (h a) b))) (items (at + 1)))
+      go : (o : Option O) → operator (byteAt s at) ≡ o → joining operator g s item′ at (h a) ≡ none
+      go none n = joining-none operator g s item′ at (h a) n
+      go (some o) n = let c = joining-some operator f s item at a o n in cc
+
+  goes-alike : (at : ℕ) (a : A) (p : Parsed A) → joining operator f s item at a ≡ some p → joining operator g s item′ at (h a) ≡ some (mapped h p)
+  goes-alike at a p e = go (operator (byteAt s at)) refl
+    where
+      go : (o : Option O) → operator (byteAt s at) ≡ o → joining operator g s item′ at (h a) ≡ some (mapped h p)
+      go none n = let c = joining-none operator f s item at a n in cc
+      go (some o) n =
+          let c = joining-some operator f s item at a o n in
+          let q : mapped (f o a) (item (at + 1)) ≡ p = cc in
+          joining-some operator g s item′ at (h a) o n
+          ∙ ap (λ i. some (mapped (g o (h a)) i)) (sym (items (at + 1)))
+          ∙ ap some (mapped-mapped (g o (h a)) h (item (at + 1)) ∙ sym (mapped-twice h (f o a) (λ b. g o (h a) (h b)) (respects o a) (item (at + 1))) ∙ ap (mapped h) q)
 
   pub respects-series : (more at : ℕ) → mapped h (series operator f s item more at) ≡ series operator g s item′ more at
   unfolding series
   respects-series more at =
-      respects-next h h (item at) _ (joined operator g s item′ more) (respects-joined more)
-      ∙ ap (λ q. next q (joined operator g s item′ more)) (items at)
+      respects-next h h (item at) _ _ (respects-repeated h _ _ stops-alike goes-alike more)
+      ∙ ap (λ q. next q (repeated (joining operator g s item′) more)) (items at)

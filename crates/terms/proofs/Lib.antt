@@ -1,5 +1,10 @@
 -- The laws of the grammar of terms, and what the proofs above cite.
+pub mod Answers
+pub mod Bytes
 mod Cases
+pub mod Digits
 pub mod Following
+pub mod Moving
 pub mod Open
 pub mod Respect
+pub mod Variables

@@ -1,4 +1,5 @@
 -- A proof that computes with the definitions of this crate and of all below it says `unfolding terms-open`. Assumes nothing.
+use Rattle.terms.specs.Answers
 use Rattle.terms.specs.Bytes
 use Rattle.terms.specs.Expressions
 use Rattle.terms.specs.Guards
@@ -9,10 +10,10 @@ use Rattle.terms.specs.Values
 use Rattle.layout.proofs.Open.{layout-open}
 
 unfoldable pub terms-open : Unit {0}
-unfolding layout-open Bytes.digit Expressions.comparison Expressions.sign Expressions.star Expressions.startOf Expressions.factorBy
-    Expressions.factor Expressions.product Expressions.sum Expressions.comparing Expressions.expression Guards.ampersand Guards.bar
-    Guards.atomStartOf Guards.atomBy Guards.atom Guards.conjunction Guards.disjunction Guards.guard Leaves.digits Leaves.decimal
-    Leaves.numbered Leaves.variable Parsed.next Parsed.mapped Parsed.word Parsed.ended Parsed.closed Parsed.joined Parsed.series
-    Trees.fold Trees.foldGuard Values.held Values.isCleared Values.isReplied Values.tested Values.junction Values.conjoined
-    Values.valueOf Values.guardOf
+unfolding layout-open Answers.asWord Answers.asNumber Answers.asVariable Answers.asValue Bytes.digit Expressions.comparison
+    Expressions.sign Expressions.star Expressions.startOf Expressions.factorBy Expressions.factor Expressions.product Expressions.sum
+    Expressions.comparing Expressions.expression Guards.ampersand Guards.bar Guards.atomStartOf Guards.atomBy Guards.atom
+    Guards.conjunction Guards.disjunction Guards.guard Leaves.counting Leaves.decimal Leaves.numbered Leaves.variable Parsed.next
+    Parsed.mapped Parsed.word Parsed.ended Parsed.closed Parsed.repeated Parsed.joining Parsed.series Trees.fold Trees.foldGuard
+    Values.held Values.isCleared Values.isReplied Values.tested Values.junction Values.conjoined Values.valueOf Values.guardOf
 terms-open = tt

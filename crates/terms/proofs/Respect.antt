@@ -7,7 +7,7 @@ use Rattle.whole.specs.declared.Operator.{Operator}
 use Rattle.whole.specs.declared.Worked.{Worked}
 use Rattle.terms.specs.declared.Variable.{Variable}
 use Rattle.terms.specs.Bytes.{Text, byteAt}
-use Rattle.terms.specs.Leaves.{Limits}
+use Rattle.terms.specs.declared.Limits.{Limits}
 use Rattle.terms.specs.Parsed.{Parsed, bad, mapped, closed}
 use Rattle.terms.specs.Expressions.{Reading, Start, aDecimal, aVariable, theSelf, theCaller, anOpening, noStart, startOf, star, sign, comparison, factorBy, factor, product, sum, comparing, expression}
 use Rattle.terms.specs.Guards.{Junction, GuardReading, AtomStart, theWait, aReply, aTest, aGuard, noAtom, atomStartOf, ampersand, bar, atomBy, atom, conjunction, disjunction, guard}

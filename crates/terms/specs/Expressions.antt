@@ -9,7 +9,8 @@ use Rattle.whole.specs.declared.Operator.{Operator}
 use Rattle.whole.specs.declared.Operator.the-variants.{Plus, Minus, Times, Less, Equal}
 use Rattle.terms.specs.declared.Variable.{Variable}
 use Rattle.terms.specs.Bytes.{Text, bytes, byteAt, digit}
-use Rattle.terms.specs.Leaves.{Limits, decimal, variable}
+use Rattle.terms.specs.declared.Limits.{Limits}
+use Rattle.terms.specs.Leaves.{decimal, variable}
 use Rattle.terms.specs.Parsed.{Parsed, got, bad, next, mapped, word, closed, series}
 
 -- "a decimal 0..2147483647"

@@ -8,7 +8,8 @@ use lib.ListN.{length}
 use Rattle.terms.specs.declared.Variable.{Variable}
 use Rattle.terms.specs.Bytes.{Text, bytes, byteAt}
 use Rattle.terms.specs.Expressions.{Reading, expression}
-use Rattle.terms.specs.Leaves.{Limits, variable}
+use Rattle.terms.specs.declared.Limits.{Limits}
+use Rattle.terms.specs.Leaves.{variable}
 use Rattle.terms.specs.Parsed.{Parsed, got, bad, next, mapped, word, closed, series}
 
 -- "conjunctions joined by `|`; a conjunction is atoms joined by `&`"

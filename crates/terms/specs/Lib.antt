@@ -1,4 +1,5 @@
 -- The grammar of terms over any reading, and the readings.
+pub mod Answers
 pub mod Bytes
 pub mod Expressions
 pub mod Guards

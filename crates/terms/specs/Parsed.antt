@@ -37,14 +37,18 @@ ended s (bad at) = bad at
 unfoldable pub closed : {A : Type 0} → ℕ → Text → Parsed A → Parsed A
 closed b s p = next p (λ at a. mapped (λ _. a) (word (b ∷ []) s at))
 
--- items after a first, each behind a byte that is an operator, at most so many, "grouped from the left"
-unfoldable pub joined : {O A : Type 0} → (ℕ → Option O) → (O → A → A → A) → Text → (ℕ → Parsed A) → ℕ → ℕ → A → Parsed A
-joined operator apply s item zero at a = got at a
-joined operator apply s item (suc more) at a = elim (operator (byteAt s at)) [
-  | none ↦ got at a
-  | some o ↦ next (item (at + 1)) (λ next-at b. joined operator apply s item more next-at (apply o a b))
+-- as long as a step goes on from a place, at most so many times: what the step makes of what was read so far
+unfoldable pub repeated : {A : Type 0} → (ℕ → A → Option (Parsed A)) → ℕ → ℕ → A → Parsed A
+repeated step zero at a = got at a
+repeated step (suc more) at a = elim (step at a) [ none ↦ got at a | some p ↦ next p (repeated step more) ]
+
+-- one item more, behind a byte that is an operator, "grouped from the left"
+unfoldable pub joining : {O A : Type 0} → (ℕ → Option O) → (O → A → A → A) → Text → (ℕ → Parsed A) → ℕ → A → Option (Parsed A)
+joining operator apply s item at a = elim (operator (byteAt s at)) [
+  | none ↦ none
+  | some o ↦ some (mapped (apply o a) (item (at + 1)))
 ]
 
 -- items joined by operators, with at most so many after the first
 unfoldable pub series : {O A : Type 0} → (ℕ → Option O) → (O → A → A → A) → Text → (ℕ → Parsed A) → ℕ → ℕ → Parsed A
-series operator apply s item more at = next (item at) (joined operator apply s item more)
+series operator apply s item more at = next (item at) (repeated (joining operator apply s item) more)

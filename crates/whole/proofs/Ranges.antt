@@ -1,6 +1,7 @@
 -- What a test of a signed number says of its range, and the sizes of sums and products. Assumes nothing.
 use Prim.Native.Nat.{ℕ, zero, suc, _+_, _-_, _*_, _^_, _≤_, _<_}
 use mathlib.Core.Bool.{Bool, true, false, cond, false≢true}
+use mathlib.Core.Option.{Option, none, some}
 use mathlib.Core.Path.{_≡_, refl, sym, ap, _∙_}
 use native.Mathlib.Omega.{arith}
 use borrow.Author.Tests.{ltb-true, ltb-false, lt-ltb, le-ltb, eqb-true, eqb-false, eq-eqb, ne-eqb}
@@ -118,3 +119,14 @@ natural-not (negsuc k) n e = refl
 -- a result that was handed on reads back as what it is known to be
 pub handed : (r z : ℤ) → mag r < 2147483648 → r ≡ z → toZ w32 (ofZ w32 r) ≡ z
 handed r z h e = toZ-ofZ w32 r (record { sfits = h }) ∙ e
+
+-- what may be missing, by what the code's enum says of it
+pub natural-some : (o : Option ℕ) (d : ℕ) → asNatural o ≡ Is d → o ≡ some d
+unfolding asNatural
+natural-some none d e = cc
+natural-some (some n) d e = cc
+
+pub natural-none : (o : Option ℕ) → asNatural o ≡ Not → o ≡ none
+unfolding asNatural
+natural-none none e = refl
+natural-none (some n) e = cc

@@ -1,0 +1,51 @@
+-- From the code's enums back to what the definitions read. Assumes nothing.
+use Prim.Native.Nat.{ℕ}
+use mathlib.Core.Path.{_≡_, ap}
+use Rattle.whole.specs.declared.Worked.{Worked}
+use Rattle.terms.specs.declared.ReadNumber.the-variants as Number
+use Rattle.terms.specs.declared.ReadValue.the-variants as Value
+use Rattle.terms.specs.declared.ReadVariable.the-variants as Variable′
+use Rattle.terms.specs.declared.ReadWord.the-variants as Word
+use Rattle.terms.specs.declared.Variable.{Variable}
+use Rattle.terms.specs.Answers.{asWord, asNumber, asVariable, asValue}
+use Rattle.terms.specs.Parsed.{Parsed, got, bad}
+
+pub word-got : (q : Parsed (Unit {0})) (p : ℕ) → asWord q ≡ Word.Got p → q ≡ got p tt
+unfolding asWord
+word-got (got at u) p e = let f : at ≡ p = cc in ap (λ n. got n tt) f
+word-got (bad at) p e = cc
+
+pub word-bad : (q : Parsed (Unit {0})) (p : ℕ) → asWord q ≡ Word.Bad p → q ≡ bad p
+unfolding asWord
+word-bad (got at b) p e = cc
+word-bad (bad at) p e = cc
+
+pub number-got : (q : Parsed ℕ) (p : ℕ) (a : ℕ) → asNumber q ≡ Number.Got p a → q ≡ got p a
+unfolding asNumber
+number-got (got at b) p a e = cc
+number-got (bad at) p a e = cc
+
+pub number-bad : (q : Parsed ℕ) (p : ℕ) → asNumber q ≡ Number.Bad p → q ≡ bad p
+unfolding asNumber
+number-bad (got at b) p e = cc
+number-bad (bad at) p e = cc
+
+pub variable-got : (q : Parsed Variable) (p : ℕ) (a : Variable) → asVariable q ≡ Variable′.Got p a → q ≡ got p a
+unfolding asVariable
+variable-got (got at b) p a e = cc
+variable-got (bad at) p a e = cc
+
+pub variable-bad : (q : Parsed Variable) (p : ℕ) → asVariable q ≡ Variable′.Bad p → q ≡ bad p
+unfolding asVariable
+variable-bad (got at b) p e = cc
+variable-bad (bad at) p e = cc
+
+pub value-got : (q : Parsed Worked) (p : ℕ) (a : Worked) → asValue q ≡ Value.Got p a → q ≡ got p a
+unfolding asValue
+value-got (got at b) p a e = cc
+value-got (bad at) p a e = cc
+
+pub value-bad : (q : Parsed Worked) (p : ℕ) → asValue q ≡ Value.Bad p → q ≡ bad p
+unfolding asValue
+value-bad (got at b) p e = cc
+value-bad (bad at) p e = cc

@@ -1,0 +1,93 @@
+-- `terms::leaves::variable` meets its contract. Assumes nothing.
+use borrow.Author.Needs.{needs}
+use mathlib.Core.Path.{_≡_, sym, ap, _∙_}
+use native.Mathlib.Omega.{arith}
+use Rattle.terms.proofs.Answers.{number-got, number-bad}
+use Rattle.terms.proofs.Moving.{within-text}
+use Rattle.terms.proofs.Variables.{variable-a, variable-v, variable-none}
+use Rattle.terms.specs.Answers.{asVariable}
+use Rattle.terms.specs.Bytes.{byteAt}
+use Rattle.terms.specs.Parsed.{mapped}
+use Rattle.terms.specs.declared.Variable.the-variants.{Attribute, Local}
+use Rattle.terms.proofs.leaves.variable.Statement.{statement}
+use Rattle.terms.proofs.leaves.variable.Tie as tie
+
+-- the byte that was read
+letter : (c : tie.After-byte-at) → byteAt (c .before .before .args .s .now) (c .before .before .args .at) ≡ c .byte-at .result
+letter c = sym (c .byte-at .ensures)
+
+byte-at-requires : tie.Need-byte-at-requires
+byte-at-requires c κs = search needs
+
+numbered-requires : tie.Need-numbered-requires
+numbered-requires c κs = within-text (c .before .before .before .args .s .now) _ 97 (letter (c .before) ∙ c .if1 .taken) (omega arith)
+
+enum-known-p : tie.Need-enum-known-p
+enum-known-p c = search needs
+
+cast-t14 : tie.Need-cast-t14
+cast-t14 c = search needs
+
+enum-known-p-2 : tie.Need-enum-known-p-2
+enum-known-p-2 c = search needs
+
+returns : tie.Need-returns
+unfolding asVariable mapped
+returns c =
+    let q = number-got _ _ _ (sym (c .before .before .before .numbered .ensures) ∙ c .before .p .given .1) in
+    sym (ap asVariable (variable-a _ _ _ (letter (c .before .before .before .before .before) ∙ c .before .before .before .before .if1 .taken) ∙ ap (mapped Attribute) q))
+
+returns-2 : tie.Need-returns-2
+unfolding asVariable mapped
+returns-2 c =
+    let q = number-bad _ _ (sym (c .before .before .before .numbered .ensures) ∙ c .before .p2 .given .1) in
+    sym (ap asVariable (variable-a _ _ _ (letter (c .before .before .before .before .before) ∙ c .before .before .before .before .if1 .taken) ∙ ap (mapped Attribute) q))
+
+numbered-requires-2 : tie.Need-numbered-requires-2
+numbered-requires-2 c κs = within-text (c .before .before .before .before .args .s .now) _ 118 (letter (c .before .before) ∙ c .if2 .taken) (omega arith)
+
+enum-known-p-3 : tie.Need-enum-known-p-3
+enum-known-p-3 c = search needs
+
+cast-t18 : tie.Need-cast-t18
+cast-t18 c = search needs
+
+enum-known-p-4 : tie.Need-enum-known-p-4
+enum-known-p-4 c = search needs
+
+returns-3 : tie.Need-returns-3
+unfolding asVariable mapped
+returns-3 c =
+    let q = number-got _ _ _ (sym (c .before .before .before .numbered2 .ensures) ∙ c .before .p3 .given .1) in
+    sym (ap asVariable (variable-v _ _ _ (letter (c .before .before .before .before .before .before) ∙ c .before .before .before .before .if2 .taken) ∙ ap (mapped Local) q))
+
+returns-4 : tie.Need-returns-4
+unfolding asVariable mapped
+returns-4 c =
+    let q = number-bad _ _ (sym (c .before .before .before .numbered2 .ensures) ∙ c .before .p4 .given .1) in
+    sym (ap asVariable (variable-v _ _ _ (letter (c .before .before .before .before .before .before) ∙ c .before .before .before .before .if2 .taken) ∙ ap (mapped Local) q))
+
+returns-5 : tie.Need-returns-5
+unfolding asVariable
+returns-5 c =
+    let b = letter (c .before .before) in
+    sym (ap asVariable (variable-none _ _ _ (λ e. c .before .if1 .left (sym b ∙ e)) (λ e. c .if2 .left (sym b ∙ e))))
+
+pub variable-spec : {M : Type 1} → statement M
+variable-spec =
+    tie.close
+    (tie.spec
+    byte-at-requires
+    numbered-requires
+    enum-known-p
+    cast-t14
+    enum-known-p-2
+    returns
+    returns-2
+    numbered-requires-2
+    enum-known-p-3
+    cast-t18
+    enum-known-p-4
+    returns-3
+    returns-4
+    returns-5)

@@ -1,0 +1,29 @@
+-- What the definitions read, as the enums that the code gives. Assumes nothing.
+use Prim.Native.Nat.{ℕ}
+use Rattle.whole.specs.declared.Worked.{Worked}
+use Rattle.terms.specs.declared.ReadNumber.{ReadNumber}
+use Rattle.terms.specs.declared.ReadNumber.the-variants as Number
+use Rattle.terms.specs.declared.ReadValue.{ReadValue}
+use Rattle.terms.specs.declared.ReadValue.the-variants as Value
+use Rattle.terms.specs.declared.ReadVariable.{ReadVariable}
+use Rattle.terms.specs.declared.ReadVariable.the-variants as Variable′
+use Rattle.terms.specs.declared.ReadWord.{ReadWord}
+use Rattle.terms.specs.declared.ReadWord.the-variants as Word
+use Rattle.terms.specs.declared.Variable.{Variable}
+use Rattle.terms.specs.Parsed.{Parsed, got, bad}
+
+unfoldable pub asWord : Parsed (Unit {0}) → ReadWord
+asWord (got at u) = Word.Got at
+asWord (bad at) = Word.Bad at
+
+unfoldable pub asNumber : Parsed ℕ → ReadNumber
+asNumber (got at n) = Number.Got at n
+asNumber (bad at) = Number.Bad at
+
+unfoldable pub asVariable : Parsed Variable → ReadVariable
+asVariable (got at x) = Variable′.Got at x
+asVariable (bad at) = Variable′.Bad at
+
+unfoldable pub asValue : Parsed Worked → ReadValue
+asValue (got at w) = Value.Got at w
+asValue (bad at) = Value.Bad at
