@@ -10,6 +10,7 @@ use lib.Signed.{nonNeg}
 use mir.Syntax.{w32}
 use mir.Val.{Fits, SFits}
 use Rattle.whole.specs.Whole.{between, nat, eqZ}
+use Rattle.layout.specs.declared.Label.{Label}
 use Rattle.layout.specs.declared.LabelFound.{LabelFound}
 use Rattle.layout.specs.declared.LabelFound.the-variants.{At, Nothing}
 use Rattle.layout.specs.Found.{asLabel}
@@ -69,3 +70,14 @@ module _ (c : Cells) (o : ℕ) (z : ℤ) where
       go (some n) e′ e =
           let n-is : l ≡ n = unfold labelIn in ap (labelIn 0) e in
           rw (e′, replyFor, ← n-is, r)
+
+-- what was found, by what the code's enum says of it
+pub label-some : (f : Option ℕ) (l : Label) → asLabel f ≡ At l → f ≡ some (l .0)
+unfolding asLabel
+label-some none l e = cc
+label-some (some n) l e = ap some (unfold labelIn in ap (labelIn 0) e)
+
+pub label-none : (f : Option ℕ) → asLabel f ≡ Nothing → f ≡ none
+unfolding asLabel
+label-none none e = refl
+label-none (some n) e = cc

@@ -30,12 +30,14 @@ const FIRST_CALL: usize = 322;
 
 const CALL_CELLS: usize = 16;
 
-// Fields of a call row.
-pub const STAGE: u8 = 0;
+// Fields of an object row and of a call row; attributes and locals stand from one on.
+pub const ATTRIBUTE: u16 = 2;
+pub const STAGE: u16 = 0;
 
-pub const CALLER: u8 = 1;
+pub const CALLER: u16 = 1;
 
-pub const CLEARED: u8 = 6;
+pub const CLEARED: u16 = 6;
+pub const LOCAL: u16 = 8;
 
 // A stage: "6 reply in".
 const REPLIED: u32 = 6;
@@ -55,7 +57,7 @@ fn before(row: u32) -> usize
 }
 
 // A field of an object.
-pub fn of_object(cells: &[i32], o: ObjectNumber, field: u8) -> i32
+pub fn of_object(cells: &[i32], o: ObjectNumber, field: u16) -> i32
     ensures { λ r. ⌜ r ≡ Layout.ofObject (now (cells .entry)) (o .0) field ⌝ }
 {
     cell(
@@ -72,7 +74,7 @@ fn row_of(l: Label) -> u32
 }
 
 // A field of a call.
-pub fn of_call(cells: &[i32], l: Label, field: u8) -> i32
+pub fn of_call(cells: &[i32], l: Label, field: u16) -> i32
     ensures { λ r. ⌜ r ≡ Layout.ofCall (now (cells .entry)) (l .0) field ⌝ }
 {
     cell(

@@ -10,7 +10,8 @@ use Rattle.terms.specs.Bytes.{Text, byteAt}
 use Rattle.terms.specs.declared.Limits.{Limits}
 use Rattle.terms.specs.Parsed.{Parsed, bad, mapped, closed}
 use Rattle.terms.specs.Expressions.{Reading, Start, aDecimal, aVariable, theSelf, theCaller, anOpening, noStart, startOf, star, sign, comparison, factorBy, factor, product, sum, comparing, expression}
-use Rattle.terms.specs.Guards.{Junction, GuardReading, AtomStart, theWait, aReply, aTest, aGuard, noAtom, atomStartOf, ampersand, bar, atomBy, atom, conjunction, disjunction, guard}
+use Rattle.terms.specs.declared.Junction.{Junction}
+use Rattle.terms.specs.Guards.{GuardReading, AtomStart, theWait, aReply, aTest, aGuard, noAtom, atomStartOf, ampersand, bar, atomBy, atom, conjunction, disjunction, guard}
 use Rattle.terms.specs.Trees.{Expression, Guard, trees, guardTrees, fold, foldGuard}
 use Rattle.terms.specs.Nothing.{nothing, guardNothing}
 use Rattle.terms.specs.Values.{Surroundings, values, guardValues, valueOf, guardOf}

@@ -11,6 +11,7 @@ use Rattle.terms.specs.declared.Variable.the-variants.{Attribute, Local}
 use Rattle.terms.specs.Bytes.{Text, byteAt, digit}
 use Rattle.terms.specs.Leaves.{numbered, variable}
 use Rattle.terms.specs.Parsed.{Parsed, got, bad, mapped}
+use Rattle.terms.proofs.Bytes.{digit-is}
 use Rattle.terms.proofs.Moving.{Moves, same-place, no-got, moves-mapped}
 
 -- the digit of a letter: no variable at all; no digit; one outside its range; one within
@@ -43,6 +44,23 @@ numbered-moves limit s at p n e = go (ltb 0 limit) refl (digit (byteAt s (at + 1
         test : (u : Bool) → ltb d limit ≡ u → at < p
         test true u =
             let l = same-place _ _ _ _ (sym (numbered-some limit s at (ltb-true _ _ t) d f (ltb-true _ _ u)) ∙ e) in
+            omega arith
+        test false u = absurd (no-got _ _ _ (sym (numbered-past limit s at (ltb-true _ _ t) d f (ltb-false _ _ u)) ∙ e))
+
+-- a variable has one digit
+pub numbered-digit : (limit : ℕ) (s : Text) (at p d : ℕ) → numbered limit s at ≡ got p d → d < 10
+numbered-digit limit s at p n e = go (ltb 0 limit) refl (digit (byteAt s (at + 1))) refl
+  where
+    go : (t : Bool) → ltb 0 limit ≡ t → (o : Option ℕ) → digit (byteAt s (at + 1)) ≡ o → n < 10
+    go false t o f = let z = ltb-false 0 limit t in absurd (no-got _ _ _ (sym (numbered-never limit s at (omega arith)) ∙ e))
+    go true t none f = absurd (no-got _ _ _ (sym (numbered-none limit s at (ltb-true _ _ t) f) ∙ e))
+    go true t (some d) f = test (ltb d limit) refl
+      where
+        test : (u : Bool) → ltb d limit ≡ u → n < 10
+        test true u =
+            let g = sym (numbered-some limit s at (ltb-true _ _ t) d f (ltb-true _ _ u)) ∙ e in
+            let l : d ≡ n = cc in
+            let k = digit-is (byteAt s (at + 1)) d f in
             omega arith
         test false u = absurd (no-got _ _ _ (sym (numbered-past limit s at (ltb-true _ _ t) d f (ltb-false _ _ u)) ∙ e))
 

@@ -1,6 +1,8 @@
 -- What the definitions read, as the enums that the code gives. Assumes nothing.
 use Prim.Native.Nat.{ℕ}
 use Rattle.whole.specs.declared.Worked.{Worked}
+use Rattle.layout.specs.Layout.{Cells}
+use Rattle.terms.specs.declared.Here.{Here}
 use Rattle.terms.specs.declared.ReadNumber.{ReadNumber}
 use Rattle.terms.specs.declared.ReadNumber.the-variants as Number
 use Rattle.terms.specs.declared.ReadValue.{ReadValue}
@@ -11,6 +13,7 @@ use Rattle.terms.specs.declared.ReadWord.{ReadWord}
 use Rattle.terms.specs.declared.ReadWord.the-variants as Word
 use Rattle.terms.specs.declared.Variable.{Variable}
 use Rattle.terms.specs.Parsed.{Parsed, got, bad}
+use Rattle.terms.specs.Values.{Surroundings}
 
 unfoldable pub asWord : Parsed (Unit {0}) → ReadWord
 asWord (got at u) = Word.Got at
@@ -27,3 +30,7 @@ asVariable (bad at) = Variable′.Bad at
 unfoldable pub asValue : Parsed Worked → ReadValue
 asValue (got at w) = Value.Got at w
 asValue (bad at) = Value.Bad at
+
+-- what a call sees, of the cells lent and the place that the code goes by
+unfoldable pub surroundings : Cells → Here → Surroundings
+surroundings c h = record { cells = c; object = h .object .0; label = h .label .0 }

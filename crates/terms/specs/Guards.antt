@@ -5,16 +5,14 @@ use mathlib.Core.Bool.{Bool, true, false}
 use mathlib.Core.Option.{Option, none, some}
 use lib.Dec.{eqb}
 use lib.ListN.{length}
+use Rattle.terms.specs.declared.Junction.{Junction}
+use Rattle.terms.specs.declared.Junction.the-variants.{Both, Either}
 use Rattle.terms.specs.declared.Variable.{Variable}
 use Rattle.terms.specs.Bytes.{Text, bytes, byteAt}
 use Rattle.terms.specs.Expressions.{Reading, expression}
 use Rattle.terms.specs.declared.Limits.{Limits}
 use Rattle.terms.specs.Leaves.{variable}
 use Rattle.terms.specs.Parsed.{Parsed, got, bad, next, mapped, word, closed, series}
-
--- "conjunctions joined by `|`; a conjunction is atoms joined by `&`"
-pub data Junction : Type 0 where
-  both either : Junction
 
 -- what each part of a guard gives, where its expressions give an A
 pub record GuardReading (A G : Type 0) : Type 0 where
@@ -24,10 +22,10 @@ pub record GuardReading (A G : Type 0) : Type 0 where
   pub join : Junction → G → G → G
 
 unfoldable pub ampersand : ℕ → Option Junction
-ampersand b = elim (eqb b (code "&")) [ true ↦ some both | false ↦ none ]
+ampersand b = elim (eqb b (code "&")) [ true ↦ some Both | false ↦ none ]
 
 unfoldable pub bar : ℕ → Option Junction
-bar b = elim (eqb b (code "|")) [ true ↦ some either | false ↦ none ]
+bar b = elim (eqb b (code "|")) [ true ↦ some Either | false ↦ none ]
 
 -- "an atom is `wait`, a variable followed by `?`, an expression in square brackets, or a guard in round brackets": its first byte tells
 pub data AtomStart : Type 0 where

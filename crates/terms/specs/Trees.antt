@@ -3,7 +3,8 @@ use Prim.Native.Nat.{ℕ}
 use Rattle.whole.specs.declared.Operator.{Operator}
 use Rattle.terms.specs.declared.Variable.{Variable}
 use Rattle.terms.specs.Expressions.{Reading}
-use Rattle.terms.specs.Guards.{Junction, GuardReading}
+use Rattle.terms.specs.declared.Junction.{Junction}
+use Rattle.terms.specs.Guards.{GuardReading}
 
 pub data Expression : Type 0 where
   number : ℕ → Expression

@@ -11,7 +11,9 @@ use Rattle.layout.specs.Stages.{replyFor}
 use Rattle.terms.specs.declared.Variable.{Variable}
 use Rattle.terms.specs.declared.Variable.the-variants.{Attribute, Local}
 use Rattle.terms.specs.Expressions.{Reading}
-use Rattle.terms.specs.Guards.{Junction, both, either, GuardReading}
+use Rattle.terms.specs.declared.Junction.{Junction}
+use Rattle.terms.specs.declared.Junction.the-variants.{Both, Either}
+use Rattle.terms.specs.Guards.{GuardReading}
 use Rattle.terms.specs.Trees.{Expression, Guard, fold, foldGuard}
 
 -- what a call sees: the cells, its object and its label
@@ -48,8 +50,8 @@ tested (Value z) = Value (truth (isTrue z))
 tested OutOfRange = OutOfRange
 
 unfoldable pub junction : Junction → Bool → Bool → Bool
-junction both p q = p && q
-junction either p q = p || q
+junction Both p q = p && q
+junction Either p q = p || q
 
 -- "All atoms are worked out."
 unfoldable pub conjoined : Junction → Worked → Worked → Worked

@@ -119,13 +119,13 @@ pub fn variable(limits: Limits, s: &[u8], at: usize) -> ReadVariable
     let b = byte_at(s, at);
     if b == b'a' {
         return match numbered(limits.attrs, s, at) {
-            ReadNumber::Got(p, d) => ReadVariable::Got(p, Variable::Attribute(d as usize)),
+            ReadNumber::Got(p, d) => ReadVariable::Got(p, Variable::Attribute(d as u8)),
             ReadNumber::Bad(p) => ReadVariable::Bad(p),
         };
     }
     if b == b'v' {
         return match numbered(limits.locals, s, at) {
-            ReadNumber::Got(p, d) => ReadVariable::Got(p, Variable::Local(d as usize)),
+            ReadNumber::Got(p, d) => ReadVariable::Got(p, Variable::Local(d as u8)),
             ReadNumber::Bad(p) => ReadVariable::Bad(p),
         };
     }

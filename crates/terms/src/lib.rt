@@ -1,21 +1,33 @@
 // Decimals, variables, expressions and guards, read straight from the text. Each reader works its value out while it reads.
 use layout::Label;
 use layout::ObjectNumber;
-use whole::Operator;
 use whole::Worked;
 
 pub mod leaves;
+pub mod values;
 
 // A variable of a method: "a0..a7 below attrs, v0..v7 below locals".
 pub enum Variable {
-    Attribute(usize),
-    Local(usize),
+    Attribute(u8),
+    Local(u8),
+}
+
+// Where a term is worked out: the object, and the call that performs it.
+pub struct Here {
+    pub object: ObjectNumber,
+    pub label: Label,
 }
 
 // What a method's variables are below.
 pub struct Limits {
     pub attrs: usize,
     pub locals: usize,
+}
+
+// "conjunctions joined by `|`; a conjunction is atoms joined by `&`"
+pub enum Junction {
+    Both,
+    Either,
 }
 
 // Where a reading ended and what was read, or the place of the refusal: the first byte from which no continuation is valid.

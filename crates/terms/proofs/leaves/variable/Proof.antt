@@ -4,7 +4,7 @@ use mathlib.Core.Path.{_≡_, sym, ap, _∙_}
 use native.Mathlib.Omega.{arith}
 use Rattle.terms.proofs.Answers.{number-got, number-bad}
 use Rattle.terms.proofs.Moving.{within-text}
-use Rattle.terms.proofs.Variables.{variable-a, variable-v, variable-none}
+use Rattle.terms.proofs.Variables.{numbered-digit, variable-a, variable-v, variable-none}
 use Rattle.terms.specs.Answers.{asVariable}
 use Rattle.terms.specs.Bytes.{byteAt}
 use Rattle.terms.specs.Parsed.{mapped}
@@ -26,7 +26,9 @@ enum-known-p : tie.Need-enum-known-p
 enum-known-p c = search needs
 
 cast-t14 : tie.Need-cast-t14
-cast-t14 c = search needs
+cast-t14 c =
+    let d = numbered-digit _ _ _ _ _ (number-got _ _ _ (sym (c .before .before .before .numbered .ensures) ∙ c .before .p .given .1)) in
+    omega arith
 
 enum-known-p-2 : tie.Need-enum-known-p-2
 enum-known-p-2 c = search needs
@@ -50,7 +52,9 @@ enum-known-p-3 : tie.Need-enum-known-p-3
 enum-known-p-3 c = search needs
 
 cast-t18 : tie.Need-cast-t18
-cast-t18 c = search needs
+cast-t18 c =
+    let d = numbered-digit _ _ _ _ _ (number-got _ _ _ (sym (c .before .before .before .numbered2 .ensures) ∙ c .before .p3 .given .1)) in
+    omega arith
 
 enum-known-p-4 : tie.Need-enum-known-p-4
 enum-known-p-4 c = search needs
