@@ -1,6 +1,6 @@
 -- From the code's enums back to what the definitions read. Assumes nothing.
 use Prim.Native.Nat.{ℕ}
-use mathlib.Core.Path.{_≡_, ap}
+use mathlib.Core.Path.{_≡_, sym, ap}
 use Rattle.whole.specs.declared.Worked.{Worked}
 use Rattle.terms.specs.declared.ReadNumber.the-variants as Number
 use Rattle.terms.specs.declared.ReadValue.the-variants as Value
@@ -8,7 +8,7 @@ use Rattle.terms.specs.declared.ReadVariable.the-variants as Variable′
 use Rattle.terms.specs.declared.ReadWord.the-variants as Word
 use Rattle.terms.specs.declared.Variable.{Variable}
 use Rattle.terms.specs.Answers.{asWord, asNumber, asVariable, asValue}
-use Rattle.terms.specs.Parsed.{Parsed, got, bad}
+use Rattle.terms.specs.Parsed.{Parsed, got, bad, mapped}
 
 pub word-got : (q : Parsed (Unit {0})) (p : ℕ) → asWord q ≡ Word.Got p → q ≡ got p tt
 unfolding asWord
@@ -49,3 +49,13 @@ pub value-bad : (q : Parsed Worked) (p : ℕ) → asValue q ≡ Value.Bad p → 
 unfolding asValue
 value-bad (got at b) p e = cc
 value-bad (bad at) p e = cc
+
+-- what was read as one thing, answered as a value
+module _ {A : Type 0} (f : A → Worked) (q : Parsed A) where
+  pub answer-got : (p : ℕ) (a : A) → q ≡ got p a → Value.Got p (f a) ≡ asValue (mapped f q)
+  unfolding asValue mapped
+  answer-got p a e = sym (ap (λ r. asValue (mapped f r)) e)
+
+  pub answer-bad : (p : ℕ) → q ≡ bad p → Value.Bad p ≡ asValue (mapped f q)
+  unfolding asValue mapped
+  answer-bad p e = sym (ap (λ r. asValue (mapped f r)) e)

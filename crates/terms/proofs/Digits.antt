@@ -11,7 +11,7 @@ use Rattle.terms.specs.Bytes.{Text, byteAt, digit}
 use Rattle.terms.specs.Leaves.{counting, decimal}
 use Rattle.terms.specs.Parsed.{Parsed, got, bad, repeated}
 use Rattle.terms.proofs.Bytes.{digit-is}
-use Rattle.terms.proofs.Moving.{Moves, past-end, within-text, same-place, no-got, repeated-goes, repeated-fails, repeated-stops, repeated-on}
+use Rattle.terms.proofs.Moving.{Moves, past-end, within-text, same-place, same-read, no-got, repeated-goes, repeated-fails, repeated-stops, repeated-on, repeated-keeps}
 
 module _ (most : ℕ) (s : Text) (at n : ℕ) where
   -- no digit; a digit more; a digit too many
@@ -108,3 +108,39 @@ decimal-moves most s at p n e = go (digit (byteAt s at)) refl
             repeated-on (counting most s) (counting-moves most s) (length s) (at + 1) p d n
             (sym (decimal-more most s at d f (leb-true _ _ t) (eqb-false d 0 g)) ∙ e) in
             omega arith
+
+-- a decimal is at most what it may be
+counting-below : (most : ℕ) (s : Text) (at p n k : ℕ) → n ≤ most → counting most s at n ≡ some (got p k) → k ≤ most
+counting-below most s at p n k h e = go (digit (byteAt s at)) refl
+  where
+    go : (o : Option ℕ) → digit (byteAt s at) ≡ o → k ≤ most
+    go none f = let c = counting-none most s at n f in absurd (let z : _≡_ {A = ℕ} 0 1 = cc in omega arith)
+    go (some d) f = test (leb (n * 10 + d) most) refl
+      where
+        test : (t : Bool) → leb (n * 10 + d) most ≡ t → k ≤ most
+        test true g =
+            let l = leb-true _ _ g in
+            let c = counting-more most s at n d f l in
+            let q : n * 10 + d ≡ k = cc in
+            omega arith
+        test false g =
+            let c = counting-past most s at n d f (leb-false _ _ g) in
+            let q : bad at ≡ got p k = cc in
+            absurd (no-got _ _ _ q)
+
+pub decimal-below : (most : ℕ) (s : Text) (at p n : ℕ) → decimal most s at ≡ got p n → n ≤ most
+decimal-below most s at p n e = go (digit (byteAt s at)) refl
+  where
+    go : (o : Option ℕ) → digit (byteAt s at) ≡ o → n ≤ most
+    go none f = absurd (no-got _ _ _ (sym (decimal-none most s at f) ∙ e))
+    go (some d) f = test (leb d most) refl (eqb d 0) refl
+      where
+        test : (t : Bool) → leb d most ≡ t → (u : Bool) → eqb d 0 ≡ u → n ≤ most
+        test false t u g = absurd (no-got _ _ _ (sym (decimal-past most s at d f (leb-false _ _ t)) ∙ e))
+        test true t true g =
+            let z = eqb-true d 0 g in
+            let l = same-read _ _ _ _ (sym (decimal-zero most s at (f ∙ ap some z)) ∙ e) in
+            omega arith
+        test true t false g =
+            repeated-keeps (counting most s) (λ k. k ≤ most) (counting-below most s) (length s) (at + 1) p d n (leb-true _ _ t)
+            (sym (decimal-more most s at d f (leb-true _ _ t) (eqb-false d 0 g)) ∙ e)

@@ -7,4 +7,5 @@ pub mod Following
 pub mod Moving
 pub mod Open
 pub mod Respect
+pub mod Starts
 pub mod Variables

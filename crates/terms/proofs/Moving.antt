@@ -3,7 +3,7 @@ use Prim.Native.Nat.{ℕ, zero, suc, _+_, _*_, _-_, _≤_, _<_}
 use mathlib.Core.Bool.{Bool, true, false, _&&_}
 use mathlib.Core.List.{List, [], _∷_}
 use mathlib.Core.Option.{Option, none, some}
-use mathlib.Core.Path.{_≡_, refl, sym, ap, _∙_}
+use mathlib.Core.Path.{_≡_, refl, sym, ap, subst, _∙_}
 use native.Mathlib.Numerals.{add-one}
 use native.Mathlib.Omega.{arith}
 use borrow.Author.Tests.{ltb-true, ltb-false, eq-eqb, ne-eqb}
@@ -32,6 +32,9 @@ no-got at p a e = let z : _≡_ {A = ℕ} 0 1 = cc in omega arith
 
 pub same-place : {A : Type 0} (at p : ℕ) (a b : A) → got at a ≡ got p b → at ≡ p
 same-place at p a b e = cc
+
+pub same-read : {A : Type 0} (at p : ℕ) (a b : A) → got at a ≡ got p b → a ≡ b
+same-read at p a b e = cc
 
 -- a reading that was got of two in a row has a first that was got
 pub next-got : {A B : Type 0} (q : Parsed A) (k : ℕ → A → Parsed B) (p : ℕ) (b : B) → next q k ≡ got p b
@@ -150,6 +153,21 @@ module _ {A : Type 0} (step : ℕ → A → Option (Parsed A)) (moves : (at p : 
     repeated-fails at p a h e =
         let n : end ≡ suc (end - 1) = omega arith in
         ap (λ k. repeated step k at a) n ∙ repeated-some step (end - 1) at a (bad p) e ∙ next-of-bad p (repeated step (end - 1))
+
+-- what each step keeps, a repetition keeps
+pub repeated-keeps : {A : Type 0} (step : ℕ → A → Option (Parsed A)) (Kept : A → Type 0)
+    → ((at p : ℕ) (a b : A) → Kept a → step at a ≡ some (got p b) → Kept b)
+    → (more at p : ℕ) (a b : A) → Kept a → repeated step more at a ≡ got p b → Kept b
+repeated-keeps {A = A} step Kept keeps zero at p a b k e =
+    subst Kept (same-read at p a b (unfold repeated in e)) k
+repeated-keeps {A = A} step Kept keeps (suc more) at p a b k e = go (step at a) refl (repeated-keeps step Kept keeps more)
+  where
+    go : (o : Option (Parsed A)) → step at a ≡ o
+        → ((at p : ℕ) (a b : A) → Kept a → repeated step more at a ≡ got p b → Kept b) → Kept b
+    go none n rest = subst Kept (same-read _ _ _ _ (sym (repeated-none step more at a n) ∙ e)) k
+    go (some q) n rest =
+        let f = next-got q (repeated step more) p b (sym (repeated-some step more at a q n) ∙ e) in
+        rest (f .0) p (f .1) b (keeps at (f .0) a (f .1) k (n ∙ ap some (f .2))) (f .3)
 
 -- a repetition whose step stops at once
 pub repeated-stops : {A : Type 0} (step : ℕ → A → Option (Parsed A)) (more at : ℕ) (a : A) → step at a ≡ none → repeated step more at a ≡ got at a

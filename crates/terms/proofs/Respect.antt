@@ -5,11 +5,13 @@ use mathlib.Core.Path.{_≡_, refl, sym, ap, _∙_}
 use lib.ListN.{length}
 use Rattle.whole.specs.declared.Operator.{Operator}
 use Rattle.whole.specs.declared.Worked.{Worked}
+use Rattle.terms.specs.declared.Start.{Start}
+use Rattle.terms.specs.declared.Start.the-variants as Start
 use Rattle.terms.specs.declared.Variable.{Variable}
 use Rattle.terms.specs.Bytes.{Text, byteAt}
 use Rattle.terms.specs.declared.Limits.{Limits}
 use Rattle.terms.specs.Parsed.{Parsed, bad, mapped, closed}
-use Rattle.terms.specs.Expressions.{Reading, Start, aDecimal, aVariable, theSelf, theCaller, anOpening, noStart, startOf, star, sign, comparison, factorBy, factor, product, sum, comparing, expression}
+use Rattle.terms.specs.Expressions.{Reading, startOf, star, sign, comparison, factorBy, factor, product, sum, comparing, expression}
 use Rattle.terms.specs.declared.Junction.{Junction}
 use Rattle.terms.specs.Guards.{GuardReading, AtomStart, theWait, aReply, aTest, aGuard, noAtom, atomStartOf, ampersand, bar, atomBy, atom, conjunction, disjunction, guard}
 use Rattle.terms.specs.Trees.{Expression, Guard, trees, guardTrees, fold, foldGuard}
@@ -30,12 +32,12 @@ module _ {A B : Type 0} {R : Reading A} {S : Reading B} {h : A → B} (r : Respe
   module _ (inside : ℕ → Parsed A) (inside′ : ℕ → Parsed B) (insides : (at : ℕ) → mapped h (inside at) ≡ inside′ at) where
     respects-start : (b : Start) (at : ℕ) → mapped h (factorBy R lim s b inside at) ≡ factorBy S lim s b inside′ at
     unfolding factorBy
-    respects-start aDecimal at = mapped-twice h _ _ (r .numbers) _
-    respects-start aVariable at = mapped-twice h _ _ (r .variables) _
-    respects-start theSelf at = mapped-twice h _ _ (λ _. r .selves) _
-    respects-start theCaller at = mapped-twice h _ _ (λ _. r .callers) _
-    respects-start anOpening at = insides at
-    respects-start noStart at = mapped-bad h at
+    respects-start Start.Decimal at = mapped-twice h _ _ (r .numbers) _
+    respects-start Start.Variable at = mapped-twice h _ _ (r .variables) _
+    respects-start Start.Itself at = mapped-twice h _ _ (λ _. r .selves) _
+    respects-start Start.Caller at = mapped-twice h _ _ (λ _. r .callers) _
+    respects-start Start.Opening at = insides at
+    respects-start Start.Nothing at = mapped-bad h at
 
     respects-factor : (at : ℕ) → mapped h (factor R lim s inside at) ≡ factor S lim s inside′ at
     unfolding factor

@@ -1,8 +1,12 @@
 -- What the definitions read, as the enums that the code gives. Assumes nothing.
 use Prim.Native.Nat.{ℕ}
+use mathlib.Core.Option.{Option, none, some}
+use Rattle.whole.specs.declared.Operator.{Operator}
 use Rattle.whole.specs.declared.Worked.{Worked}
 use Rattle.layout.specs.Layout.{Cells}
 use Rattle.terms.specs.declared.Here.{Here}
+use Rattle.terms.specs.declared.OperatorFound.{OperatorFound}
+use Rattle.terms.specs.declared.OperatorFound.the-variants as Operator′
 use Rattle.terms.specs.declared.ReadNumber.{ReadNumber}
 use Rattle.terms.specs.declared.ReadNumber.the-variants as Number
 use Rattle.terms.specs.declared.ReadValue.{ReadValue}
@@ -34,3 +38,7 @@ asValue (bad at) = Value.Bad at
 -- what a call sees, of the cells lent and the place that the code goes by
 unfoldable pub surroundings : Cells → Here → Surroundings
 surroundings c h = record { cells = c; object = h .object .0; label = h .label .0 }
+
+unfoldable pub asOperator : Option Operator → OperatorFound
+asOperator (some o) = Operator′.Is o
+asOperator none = Operator′.Nothing

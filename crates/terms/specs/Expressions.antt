@@ -7,6 +7,8 @@ use lib.Dec.{leb, eqb}
 use lib.ListN.{length}
 use Rattle.whole.specs.declared.Operator.{Operator}
 use Rattle.whole.specs.declared.Operator.the-variants.{Plus, Minus, Times, Less, Equal}
+use Rattle.terms.specs.declared.Start.{Start}
+use Rattle.terms.specs.declared.Start.the-variants as Start
 use Rattle.terms.specs.declared.Variable.{Variable}
 use Rattle.terms.specs.Bytes.{Text, bytes, byteAt, digit}
 use Rattle.terms.specs.declared.Limits.{Limits}
@@ -29,40 +31,35 @@ pub record Reading (A : Type 0) : Type 0 where
   pub caller : A
   pub apply : Operator → A → A → A
 
+-- one of two bytes, each with its operator
+unfoldable pub among : ℕ → Operator → ℕ → Operator → ℕ → Option Operator
+among first o second p b = elim (eqb b first) [ true ↦ some o | false ↦ elim (eqb b second) [ true ↦ some p | false ↦ none ] ]
+
 -- "two sums joined by one `<` or `=`"
 unfoldable pub comparison : ℕ → Option Operator
-comparison b = elim (eqb b (code "<")) [
-  | true ↦ some Less
-  | false ↦ elim (eqb b (code "=")) [ true ↦ some Equal | false ↦ none ]
-]
+comparison = among (code "<") Less (code "=") Equal
 
 -- "products joined by `+` or `-`"
 unfoldable pub sign : ℕ → Option Operator
-sign b = elim (eqb b (code "+")) [
-  | true ↦ some Plus
-  | false ↦ elim (eqb b (code "-")) [ true ↦ some Minus | false ↦ none ]
-]
+sign = among (code "+") Plus (code "-") Minus
 
 -- "factors joined by `*`"
 unfoldable pub star : ℕ → Option Operator
 star b = elim (eqb b (code "*")) [ true ↦ some Times | false ↦ none ]
 
 -- "A factor is a decimal 0..2147483647, a variable, `self`, `caller`, or an expression in round brackets": its first byte tells which
-pub data Start : Type 0 where
-  aDecimal aVariable theSelf theCaller anOpening noStart : Start
-
 unfoldable pub startOf : ℕ → Start
 startOf b = elim (digit b) [
-  | some d ↦ aDecimal
+  | some d ↦ Start.Decimal
   | none ↦ elim (eqb b (code "s")) [
-    | true ↦ theSelf
+    | true ↦ Start.Itself
     | false ↦ elim (eqb b (code "c")) [
-      | true ↦ theCaller
+      | true ↦ Start.Caller
       | false ↦ elim (eqb b (code "(")) [
-        | true ↦ anOpening
+        | true ↦ Start.Opening
         | false ↦ elim (eqb b (code "a")) [
-          | true ↦ aVariable
-          | false ↦ elim (eqb b (code "v")) [ true ↦ aVariable | false ↦ noStart ]
+          | true ↦ Start.Variable
+          | false ↦ elim (eqb b (code "v")) [ true ↦ Start.Variable | false ↦ Start.Nothing ]
         ]
       ]
     ]
@@ -72,12 +69,12 @@ startOf b = elim (digit b) [
 module _ {A : Type 0} (R : Reading A) (lim : Limits) (s : Text) where
   -- a factor by its start, where `inside` reads what stands at an opening bracket
   unfoldable pub factorBy : Start → (ℕ → Parsed A) → ℕ → Parsed A
-  factorBy aDecimal inside at = mapped (R .number) (decimal largest s at)
-  factorBy aVariable inside at = mapped (R .variable) (variable lim s at)
-  factorBy theSelf inside at = mapped (λ _. R .self) (word (bytes "self") s at)
-  factorBy theCaller inside at = mapped (λ _. R .caller) (word (bytes "caller") s at)
-  factorBy anOpening inside at = inside at
-  factorBy noStart inside at = bad at
+  factorBy Start.Decimal inside at = mapped (R .number) (decimal largest s at)
+  factorBy Start.Variable inside at = mapped (R .variable) (variable lim s at)
+  factorBy Start.Itself inside at = mapped (λ _. R .self) (word (bytes "self") s at)
+  factorBy Start.Caller inside at = mapped (λ _. R .caller) (word (bytes "caller") s at)
+  factorBy Start.Opening inside at = inside at
+  factorBy Start.Nothing inside at = bad at
 
   unfoldable pub factor : (ℕ → Parsed A) → ℕ → Parsed A
   factor inside at = factorBy (startOf (byteAt s at)) inside at
@@ -98,3 +95,8 @@ module _ {A : Type 0} (R : Reading A) (lim : Limits) (s : Text) where
   unfoldable pub expression : ℕ → ℕ → Parsed A
   expression zero = comparing bad
   expression (suc left) = comparing (λ at. closed (code ")") s (expression left (at + 1)))
+
+  -- what stands at an opening bracket, with so many brackets still allowed
+  unfoldable pub inside : ℕ → ℕ → Parsed A
+  inside zero at = bad at
+  inside (suc left) at = closed (code ")") s (expression left (at + 1))

@@ -6,5 +6,6 @@ pub mod Guards
 pub mod Leaves
 pub mod Nothing
 pub mod Parsed
+pub mod Readers
 pub mod Trees
 pub mod Values

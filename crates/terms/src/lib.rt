@@ -1,8 +1,10 @@
 // Decimals, variables, expressions and guards, read straight from the text. Each reader works its value out while it reads.
 use layout::Label;
 use layout::ObjectNumber;
+use whole::Operator;
 use whole::Worked;
 
+pub mod expressions;
 pub mod leaves;
 pub mod values;
 
@@ -22,6 +24,28 @@ pub struct Here {
 pub struct Limits {
     pub attrs: usize,
     pub locals: usize,
+}
+
+// What a term is read in: what its variables are below, and where it is worked out.
+pub struct Around {
+    pub limits: Limits,
+    pub here: Here,
+}
+
+// "A factor is a decimal 0..2147483647, a variable, `self`, `caller`, or an expression in round brackets": its first byte tells which.
+pub enum Start {
+    Decimal,
+    Variable,
+    Itself,
+    Caller,
+    Opening,
+    Nothing,
+}
+
+// A byte as an operator, or none.
+pub enum OperatorFound {
+    Is(Operator),
+    Nothing,
 }
 
 // "conjunctions joined by `|`; a conjunction is atoms joined by `&`"

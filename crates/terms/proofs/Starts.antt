@@ -1,0 +1,38 @@
+-- What a byte begins or joins, by the tests that the code makes. Assumes nothing.
+use Prim.Native.Nat.{ℕ, _≤_, _<_}
+use mathlib.Core.Option.{Option, none, some}
+use mathlib.Core.Path.{_≡_, refl}
+use borrow.Author.Tests.{eq-eqb, ne-eqb}
+use Rattle.whole.specs.declared.Operator.{Operator}
+use Rattle.whole.specs.declared.Operator.the-variants.{Times}
+use Rattle.terms.specs.declared.Start.the-variants as Start
+use Rattle.terms.specs.Bytes.{digit}
+use Rattle.terms.specs.Expressions.{among, star, startOf}
+use Rattle.terms.proofs.Bytes.{among-digits}
+
+module _ (first : ℕ) (o : Operator) (second : ℕ) (p : Operator) (b : ℕ) where
+  pub among-first : b ≡ first → among first o second p b ≡ some o
+  unfolding among
+  among-first e = rw (eq-eqb b first e, among)
+
+  pub among-second : (b ≡ first → ⊥) → b ≡ second → among first o second p b ≡ some p
+  unfolding among
+  among-second n e = rw (ne-eqb b first n, eq-eqb b second e, among)
+
+  pub among-none : (b ≡ first → ⊥) → (b ≡ second → ⊥) → among first o second p b ≡ none
+  unfolding among
+  among-none n m = rw (ne-eqb b first n, ne-eqb b second m, among)
+
+module _ (b : ℕ) where
+  pub star-none : (b ≡ 42 → ⊥) → star b ≡ none
+  unfolding star
+  star-none n = rw (ne-eqb b 42 n, star)
+
+  pub starts-decimal : 48 ≤ b → b ≤ 57 → startOf b ≡ Start.Decimal
+  unfolding startOf
+  starts-decimal h k = rw (among-digits b h k, startOf)
+
+  pub starts-nothing : digit b ≡ none → (b ≡ 115 → ⊥) → (b ≡ 99 → ⊥) → (b ≡ 40 → ⊥) → (b ≡ 97 → ⊥) → (b ≡ 118 → ⊥) → startOf b ≡ Start.Nothing
+  unfolding startOf
+  starts-nothing d s c o a v =
+      rw (d, ne-eqb b 115 s, ne-eqb b 99 c, ne-eqb b 40 o, ne-eqb b 97 a, ne-eqb b 118 v, startOf)

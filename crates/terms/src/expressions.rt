@@ -1,0 +1,112 @@
+// Expression, sum, product and factor readers, which call one another: the count of brackets still allowed falls, then the length left.
+use crate::Around;
+use crate::OperatorFound;
+use crate::ReadNumber;
+use crate::ReadValue;
+use crate::ReadVariable;
+use crate::ReadWord;
+use crate::Start;
+use crate::leaves;
+use crate::values;
+use whole::Operator;
+use whole::Worked;
+ghost use mathlib.Core.Path.{_≡_};
+ghost use Prim.Native.Nat.{_<_};
+ghost use lib.IntN.{pos};
+ghost use lib.ListN.{length};
+ghost use Rattle.whole.specs.declared.Worked.the-variants.{Value};
+ghost use Rattle.terms.specs.Answers.{asValue, asOperator, surroundings};
+ghost use Rattle.terms.specs.Bytes.{bytes, byteAt};
+ghost use Rattle.terms.specs.Expressions as Expressions;
+ghost use Rattle.terms.specs.Leaves as Leaves;
+ghost use Rattle.terms.specs.Parsed.{mapped, word};
+ghost use Rattle.terms.specs.Readers as Readers;
+ghost use Rattle.terms.specs.Values as Values;
+
+// "a decimal 0..2147483647"
+const LARGEST: u32 = 2147483647;
+
+// "At most 8 brackets are open at once."
+pub const BRACKETS: usize = 8;
+
+// "factors joined by `*`"
+fn star_at(s: &[u8], at: usize) -> OperatorFound
+    ensures { λ r. ⌜ r ≡ asOperator (Expressions.star (byteAt (now (s .entry)) at)) ⌝ }
+{
+    if leaves::byte_at(s, at) == b'*' {
+        return OperatorFound::Is(Operator::Times);
+    }
+    OperatorFound::Nothing
+}
+
+// One of two bytes, each with its operator.
+fn among(first: u8, o: Operator, second: u8, p: Operator, b: u8) -> OperatorFound
+    ensures { λ r. ⌜ r ≡ asOperator (Expressions.among first o second p b) ⌝ }
+{
+    if b == first {
+        return OperatorFound::Is(o);
+    }
+    if b == second {
+        return OperatorFound::Is(p);
+    }
+    OperatorFound::Nothing
+}
+
+// "products joined by `+` or `-`"
+fn sign_at(s: &[u8], at: usize) -> OperatorFound
+    ensures { λ r. ⌜ r ≡ asOperator (Expressions.sign (byteAt (now (s .entry)) at)) ⌝ }
+{
+    among(b'+', Operator::Plus, b'-', Operator::Minus, leaves::byte_at(s, at))
+}
+
+// "two sums joined by one `<` or `=`"
+fn comparison_at(s: &[u8], at: usize) -> OperatorFound
+    ensures { λ r. ⌜ r ≡ asOperator (Expressions.comparison (byteAt (now (s .entry)) at)) ⌝ }
+{
+    among(b'<', Operator::Less, b'=', Operator::Equal, leaves::byte_at(s, at))
+}
+
+// What a factor begins with.
+fn start_at(s: &[u8], at: usize) -> Start
+    ensures { λ r. ⌜ r ≡ Expressions.startOf (byteAt (now (s .entry)) at) ⌝ }
+{
+    match leaves::byte_at(s, at) {
+        b'0'..=b'9' => Start::Decimal,
+        b's' => Start::Itself,
+        b'c' => Start::Caller,
+        b'(' => Start::Opening,
+        b'a' | b'v' => Start::Variable,
+        _ => Start::Nothing,
+    }
+}
+
+// A decimal as a factor.
+fn number(s: &[u8], at: usize) -> ReadValue
+    ensures { λ r. ⌜ r ≡ asValue (mapped (λ n. Value (pos n)) (Leaves.decimal Expressions.largest (now (s .entry)) at)) ⌝ }
+{
+    match leaves::decimal(LARGEST, s, at) {
+        ReadNumber::Got(p, n) => ReadValue::Got(p, Worked::Value(n as i32)),
+        ReadNumber::Bad(p) => ReadValue::Bad(p),
+    }
+}
+
+// A variable as a factor.
+fn variable(s: &[u8], at: usize, cells: &[i32], around: Around) -> ReadValue
+    ensures { λ r. ⌜ r ≡ asValue (mapped (λ x. Value (Values.held (surroundings (now (cells .entry)) (around .here)) x)) (Leaves.variable (around .limits) (now (s .entry)) at)) ⌝ }
+{
+    match leaves::variable(around.limits, s, at) {
+        ReadVariable::Got(p, x) => ReadValue::Got(p, Worked::Value(values::held(cells, around.here, x))),
+        ReadVariable::Bad(p) => ReadValue::Bad(p),
+    }
+}
+
+// A word as a factor, with its value.
+fn named(w: &[u8], value: Worked, s: &[u8], at: usize) -> ReadValue
+    requires { ⌜ at < length (now s) ⌝ }
+    ensures { λ r. ⌜ r ≡ asValue (mapped (λ _. value) (word (now (w .entry)) (now (s .entry)) at)) ⌝ }
+{
+    match leaves::word(w, s, at) {
+        ReadWord::Got(p) => ReadValue::Got(p, value),
+        ReadWord::Bad(p) => ReadValue::Bad(p),
+    }
+}
