@@ -9,7 +9,7 @@ ghost use Rattle.layout.specs.Stages as Stages;
 ghost use Rattle.layout.specs.Found as Found;
 
 // "Object numbers and labels are counted apart, and neither stands in for the other." Each is made from a cell only after its test.
-pub struct ObjectNumber(pub u32);
+pub struct ObjectNumber(pub u8);
 
 pub struct Label(pub u32);
 
@@ -32,11 +32,13 @@ const CALL_CELLS: usize = 16;
 
 // Fields of an object row and of a call row; attributes and locals stand from one on.
 pub const ATTRIBUTE: u16 = 2;
+
 pub const STAGE: u16 = 0;
 
 pub const CALLER: u16 = 1;
 
 pub const CLEARED: u16 = 6;
+
 pub const LOCAL: u16 = 8;
 
 // A stage: "6 reply in".
@@ -62,7 +64,7 @@ pub fn of_object(cells: &[i32], o: ObjectNumber, field: u16) -> i32
 {
     cell(
         cells,
-        FIRST_OBJECT + before(o.0) * OBJECT_CELLS + field as usize,
+        FIRST_OBJECT + before(o.0 as u32) * OBJECT_CELLS + field as usize,
     )
 }
 
@@ -99,7 +101,7 @@ fn is_reply(cells: &[i32], o: ObjectNumber, l: Label) -> bool
     ensures { λ r. ⌜ r ≡ Stages.isReply (now (cells .entry)) (o .0) (l .0) ⌝ }
 {
     if whole::is_number(of_call(cells, l, STAGE), REPLIED) {
-        whole::is_number(of_call(cells, l, CALLER), o.0)
+        whole::is_number(of_call(cells, l, CALLER), o.0 as u32)
     } else {
         false
     }

@@ -1,13 +1,16 @@
 -- From the code's enums back to what the definitions read. Assumes nothing.
 use Prim.Native.Nat.{ℕ}
-use mathlib.Core.Path.{_≡_, sym, ap}
+use mathlib.Core.Option.{Option, none, some}
+use mathlib.Core.Path.{_≡_, refl, sym, ap}
+use Rattle.whole.specs.declared.Operator.{Operator}
 use Rattle.whole.specs.declared.Worked.{Worked}
+use Rattle.terms.specs.declared.OperatorFound.the-variants as Operator′
 use Rattle.terms.specs.declared.ReadNumber.the-variants as Number
 use Rattle.terms.specs.declared.ReadValue.the-variants as Value
 use Rattle.terms.specs.declared.ReadVariable.the-variants as Variable′
 use Rattle.terms.specs.declared.ReadWord.the-variants as Word
 use Rattle.terms.specs.declared.Variable.{Variable}
-use Rattle.terms.specs.Answers.{asWord, asNumber, asVariable, asValue}
+use Rattle.terms.specs.Answers.{asWord, asNumber, asVariable, asValue, asOperator}
 use Rattle.terms.specs.Parsed.{Parsed, got, bad, mapped}
 
 pub word-got : (q : Parsed (Unit {0})) (p : ℕ) → asWord q ≡ Word.Got p → q ≡ got p tt
@@ -59,3 +62,14 @@ module _ {A : Type 0} (f : A → Worked) (q : Parsed A) where
   pub answer-bad : (p : ℕ) → q ≡ bad p → Value.Bad p ≡ asValue (mapped f q)
   unfolding asValue mapped
   answer-bad p e = sym (ap (λ r. asValue (mapped f r)) e)
+
+-- an operator that was found, or none
+pub operator-some : (o : Option Operator) (x : Operator) → asOperator o ≡ Operator′.Is x → o ≡ some x
+unfolding asOperator
+operator-some none x e = cc
+operator-some (some y) x e = cc
+
+pub operator-none : (o : Option Operator) → asOperator o ≡ Operator′.Nothing → o ≡ none
+unfolding asOperator
+operator-none none e = refl
+operator-none (some y) e = cc

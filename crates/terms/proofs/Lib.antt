@@ -5,7 +5,10 @@ mod Cases
 pub mod Digits
 pub mod Following
 pub mod Moving
+pub mod Nesting
+pub mod Onward
 pub mod Open
 pub mod Respect
+pub mod Series
 pub mod Starts
 pub mod Variables

@@ -1,14 +1,19 @@
 -- What a byte begins or joins, by the tests that the code makes. Assumes nothing.
 use Prim.Native.Nat.{ℕ, _≤_, _<_}
+use mathlib.Core.Bool.{Bool, true, false}
 use mathlib.Core.Option.{Option, none, some}
-use mathlib.Core.Path.{_≡_, refl}
-use borrow.Author.Tests.{eq-eqb, ne-eqb}
+use mathlib.Core.Path.{_≡_, refl, sym, ap, _∙_}
+use borrow.Author.Tests.{eq-eqb, ne-eqb, ltb-true, ltb-false}
+use lib.Dec.{ltb}
+use lib.ListN.{length}
 use Rattle.whole.specs.declared.Operator.{Operator}
 use Rattle.whole.specs.declared.Operator.the-variants.{Times}
+use Rattle.terms.specs.declared.Start.{Start}
 use Rattle.terms.specs.declared.Start.the-variants as Start
-use Rattle.terms.specs.Bytes.{digit}
-use Rattle.terms.specs.Expressions.{among, star, startOf}
+use Rattle.terms.specs.Bytes.{Text, byteAt, digit}
+use Rattle.terms.specs.Expressions.{among, star, sign, comparison, startOf}
 use Rattle.terms.proofs.Bytes.{among-digits}
+use Rattle.terms.proofs.Moving.{past-end}
 
 module _ (first : ℕ) (o : Operator) (second : ℕ) (p : Operator) (b : ℕ) where
   pub among-first : b ≡ first → among first o second p b ≡ some o
@@ -36,3 +41,24 @@ module _ (b : ℕ) where
   unfolding startOf
   starts-nothing d s c o a v =
       rw (d, ne-eqb b 115 s, ne-eqb b 99 c, ne-eqb b 40 o, ne-eqb b 97 a, ne-eqb b 118 v, startOf)
+
+-- 0 joins nothing and begins nothing
+pub star-zero : star 0 ≡ none
+unfolding star
+star-zero = refl
+
+pub sign-zero : sign 0 ≡ none
+unfolding sign among
+sign-zero = refl
+
+pub comparison-zero : comparison 0 ≡ none
+unfolding comparison among
+comparison-zero = refl
+
+pub start-within : (s : Text) (at : ℕ) (b : Start) → startOf (byteAt s at) ≡ b → (b ≡ Start.Nothing → ⊥) → at < length s
+start-within s at b e n = go (ltb at (length s)) refl
+  where
+    go : (t : Bool) → ltb at (length s) ≡ t → at < length s
+    go true f = ltb-true at (length s) f
+    go false f =
+        absurd (n (sym e ∙ ap startOf (past-end s at (ltb-false at (length s) f)) ∙ (unfold startOf digit in refl)))

@@ -14,14 +14,17 @@ use Rattle.terms.specs.Values.{values}
 
 -- of a text, in what it is read, with so many brackets still allowed, at a place
 module _ (c : Cells) (a : Around) (s : Text) (left : ℕ) where
+  abbrev pub insideRead : ℕ → Parsed Worked
+  insideRead = inside (values (surroundings c (a .here))) (a .limits) s left
+
   abbrev pub factorRead : ℕ → Parsed Worked
-  factorRead = factor (values (surroundings c (a .here))) (a .limits) s (inside (values (surroundings c (a .here))) (a .limits) s left)
+  factorRead = factor (values (surroundings c (a .here))) (a .limits) s insideRead
 
   abbrev pub productRead : ℕ → Parsed Worked
-  productRead = product (values (surroundings c (a .here))) (a .limits) s (inside (values (surroundings c (a .here))) (a .limits) s left)
+  productRead = product (values (surroundings c (a .here))) (a .limits) s insideRead
 
   abbrev pub sumRead : ℕ → Parsed Worked
-  sumRead = sum (values (surroundings c (a .here))) (a .limits) s (inside (values (surroundings c (a .here))) (a .limits) s left)
+  sumRead = sum (values (surroundings c (a .here))) (a .limits) s insideRead
 
   abbrev pub expressionRead : ℕ → Parsed Worked
   expressionRead = expression (values (surroundings c (a .here))) (a .limits) s left

@@ -56,14 +56,26 @@ fn among(first: u8, o: Operator, second: u8, p: Operator, b: u8) -> OperatorFoun
 fn sign_at(s: &[u8], at: usize) -> OperatorFound
     ensures { λ r. ⌜ r ≡ asOperator (Expressions.sign (byteAt (now (s .entry)) at)) ⌝ }
 {
-    among(b'+', Operator::Plus, b'-', Operator::Minus, leaves::byte_at(s, at))
+    among(
+        b'+',
+        Operator::Plus,
+        b'-',
+        Operator::Minus,
+        leaves::byte_at(s, at),
+    )
 }
 
 // "two sums joined by one `<` or `=`"
 fn comparison_at(s: &[u8], at: usize) -> OperatorFound
     ensures { λ r. ⌜ r ≡ asOperator (Expressions.comparison (byteAt (now (s .entry)) at)) ⌝ }
 {
-    among(b'<', Operator::Less, b'=', Operator::Equal, leaves::byte_at(s, at))
+    among(
+        b'<',
+        Operator::Less,
+        b'=',
+        Operator::Equal,
+        leaves::byte_at(s, at),
+    )
 }
 
 // What a factor begins with.
@@ -95,7 +107,10 @@ fn variable(s: &[u8], at: usize, cells: &[i32], around: Around) -> ReadValue
     ensures { λ r. ⌜ r ≡ asValue (mapped (λ x. Value (Values.held (surroundings (now (cells .entry)) (around .here)) x)) (Leaves.variable (around .limits) (now (s .entry)) at)) ⌝ }
 {
     match leaves::variable(around.limits, s, at) {
-        ReadVariable::Got(p, x) => ReadValue::Got(p, Worked::Value(values::held(cells, around.here, x))),
+        ReadVariable::Got(p, x) => ReadValue::Got(
+            p,
+            Worked::Value(values::held(cells, around.here, x)),
+        ),
         ReadVariable::Bad(p) => ReadValue::Bad(p),
     }
 }
@@ -108,5 +123,115 @@ fn named(w: &[u8], value: Worked, s: &[u8], at: usize) -> ReadValue
     match leaves::word(w, s, at) {
         ReadWord::Got(p) => ReadValue::Got(p, value),
         ReadWord::Bad(p) => ReadValue::Bad(p),
+    }
+}
+
+// What stands in round brackets, from the opening one on.
+fn bracketed(s: &[u8], at: usize, cells: &[i32], around: Around, left: usize) -> ReadValue
+    requires { ⌜ at < length (now s) ⌝ }
+    ensures { λ r. ⌜ r ≡ asValue (Readers.insideRead (now (cells .entry)) around (now (s .entry)) left at) ⌝ }
+{
+    if left == 0 {
+        return ReadValue::Bad(at);
+    }
+    match expression(s, at + 1, cells, around, left - 1) {
+        ReadValue::Bad(p) => ReadValue::Bad(p),
+        ReadValue::Got(p, a) => {
+            if leaves::byte_at(s, p) == b')' {
+                ReadValue::Got(p + 1, a)
+            } else {
+                ReadValue::Bad(p)
+            }
+        }
+    }
+}
+
+// "A factor is a decimal 0..2147483647, a variable, `self`, `caller`, or an expression in round brackets."
+fn factor(s: &[u8], at: usize, cells: &[i32], around: Around, left: usize) -> ReadValue
+    ensures { λ r. ⌜ r ≡ asValue (Readers.factorRead (now (cells .entry)) around (now (s .entry)) left at) ⌝ }
+{
+    match start_at(s, at) {
+        Start::Decimal => number(s, at),
+        Start::Variable => variable(s, at, cells, around),
+        Start::Itself => named(b"self", values::itself(around.here), s, at),
+        Start::Caller => named(b"caller", values::caller(cells, around.here), s, at),
+        Start::Opening => bracketed(s, at, cells, around, left),
+        Start::Nothing => ReadValue::Bad(at),
+    }
+}
+
+// The factors after a first.
+fn multiplied(
+    s: &[u8],
+    at: usize,
+    a: Worked,
+    cells: &[i32],
+    around: Around,
+    left: usize,
+) -> ReadValue
+    ensures { λ r. ⌜ r ≡ asValue (Readers.multipliedRead (now (cells .entry)) around (now (s .entry)) left at a) ⌝ }
+{
+    match star_at(s, at) {
+        OperatorFound::Nothing => ReadValue::Got(at, a),
+        OperatorFound::Is(o) => match factor(s, at + 1, cells, around, left) {
+            ReadValue::Bad(p) => ReadValue::Bad(p),
+            ReadValue::Got(p, b) => multiplied(s, p, whole::applied(o, a, b), cells, around, left),
+        },
+    }
+}
+
+// "a product is factors joined by `*`"
+fn product(s: &[u8], at: usize, cells: &[i32], around: Around, left: usize) -> ReadValue
+    ensures { λ r. ⌜ r ≡ asValue (Readers.productRead (now (cells .entry)) around (now (s .entry)) left at) ⌝ }
+{
+    match factor(s, at, cells, around, left) {
+        ReadValue::Bad(p) => ReadValue::Bad(p),
+        ReadValue::Got(p, a) => multiplied(s, p, a, cells, around, left),
+    }
+}
+
+// The products after a first.
+fn summed(s: &[u8], at: usize, a: Worked, cells: &[i32], around: Around, left: usize) -> ReadValue
+    ensures { λ r. ⌜ r ≡ asValue (Readers.summedRead (now (cells .entry)) around (now (s .entry)) left at a) ⌝ }
+{
+    match sign_at(s, at) {
+        OperatorFound::Nothing => ReadValue::Got(at, a),
+        OperatorFound::Is(o) => match product(s, at + 1, cells, around, left) {
+            ReadValue::Bad(p) => ReadValue::Bad(p),
+            ReadValue::Got(p, b) => summed(s, p, whole::applied(o, a, b), cells, around, left),
+        },
+    }
+}
+
+// "A sum is products joined by `+` or `-`"
+fn sum(s: &[u8], at: usize, cells: &[i32], around: Around, left: usize) -> ReadValue
+    ensures { λ r. ⌜ r ≡ asValue (Readers.sumRead (now (cells .entry)) around (now (s .entry)) left at) ⌝ }
+{
+    match product(s, at, cells, around, left) {
+        ReadValue::Bad(p) => ReadValue::Bad(p),
+        ReadValue::Got(p, a) => summed(s, p, a, cells, around, left),
+    }
+}
+
+// The sum after a first, if there is one.
+fn compared(s: &[u8], at: usize, a: Worked, cells: &[i32], around: Around, left: usize) -> ReadValue
+    ensures { λ r. ⌜ r ≡ asValue (Readers.comparedRead (now (cells .entry)) around (now (s .entry)) left at a) ⌝ }
+{
+    match comparison_at(s, at) {
+        OperatorFound::Nothing => ReadValue::Got(at, a),
+        OperatorFound::Is(o) => match sum(s, at + 1, cells, around, left) {
+            ReadValue::Bad(p) => ReadValue::Bad(p),
+            ReadValue::Got(p, b) => ReadValue::Got(p, whole::applied(o, a, b)),
+        },
+    }
+}
+
+// "Expression: a sum, or two sums joined by one `<` or `=`", with so many brackets still allowed.
+pub fn expression(s: &[u8], at: usize, cells: &[i32], around: Around, left: usize) -> ReadValue
+    ensures { λ r. ⌜ r ≡ asValue (Readers.expressionRead (now (cells .entry)) around (now (s .entry)) left at) ⌝ }
+{
+    match sum(s, at, cells, around, left) {
+        ReadValue::Bad(p) => ReadValue::Bad(p),
+        ReadValue::Got(p, a) => compared(s, p, a, cells, around, left),
     }
 }

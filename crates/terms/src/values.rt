@@ -5,6 +5,9 @@ use crate::Variable;
 use layout::LabelFound;
 use whole::Worked;
 ghost use mathlib.Core.Path.{_≡_};
+ghost use lib.IntN.{pos};
+ghost use Rattle.whole.specs.declared.Worked.the-variants.{Value};
+ghost use Rattle.layout.specs.Layout as Layout;
 ghost use Rattle.terms.specs.Answers.{surroundings};
 ghost use Rattle.terms.specs.Values as Values;
 
@@ -13,9 +16,26 @@ pub fn held(cells: &[i32], here: Here, x: Variable) -> i32
     ensures { λ r. ⌜ r ≡ Values.held (surroundings (now (cells .entry)) here) x ⌝ }
 {
     match x {
-        Variable::Attribute(i) => layout::of_object(cells, here.object, layout::ATTRIBUTE + i as u16),
+        Variable::Attribute(i) => layout::of_object(
+            cells,
+            here.object,
+            layout::ATTRIBUTE + i as u16,
+        ),
         Variable::Local(i) => layout::of_call(cells, here.label, layout::LOCAL + i as u16),
     }
+}
+
+// `self` and `caller`.
+pub fn itself(here: Here) -> Worked
+    ensures { λ r. ⌜ r ≡ Value (pos (here .object .0)) ⌝ }
+{
+    Worked::Value(here.object.0 as i32)
+}
+
+pub fn caller(cells: &[i32], here: Here) -> Worked
+    ensures { λ r. ⌜ r ≡ Value (Layout.ofCall (now (cells .entry)) (here .label .0) Layout.caller) ⌝ }
+{
+    Worked::Value(layout::of_call(cells, here.label, layout::CALLER))
 }
 
 // "`wait` is true exactly when cleared is 1"
@@ -63,7 +83,11 @@ pub fn conjoined(j: Junction, left: Worked, right: Worked) -> Worked
         Worked::OutOfRange => Worked::OutOfRange,
         Worked::Value(x) => match right {
             Worked::OutOfRange => Worked::OutOfRange,
-            Worked::Value(y) => Worked::Value(whole::truth(joined(j, whole::is_true(x), whole::is_true(y)))),
+            Worked::Value(y) => Worked::Value(whole::truth(joined(
+                j,
+                whole::is_true(x),
+                whole::is_true(y),
+            ))),
         },
     }
 }

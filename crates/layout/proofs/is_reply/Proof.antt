@@ -26,16 +26,19 @@ is-number-requires c κs = search needs
 of-call-requires-2 : tie.Need-of-call-requires-2
 of-call-requires-2 c κs = search needs
 
+cast-is-number : tie.Need-cast-is-number
+cast-is-number c = search needs
+
 is-number-requires-2 : tie.Need-is-number-requires-2
 is-number-requires-2 c κs = search needs
 
 returns : tie.Need-returns
 unfolding isReply
 returns c =
-    let s = c .before .before .before .before .before in
+    let s = c .before .before .before .before .before .before in
     c .is-number2 .ensures
-    ∙ ap (λ z. eqZ z (pos (s .args .o .0))) (handed _ _ (c .before .of-call2 .ok) (c .before .of-call2 .ensures))
-    ∙ sym (ap (_&& eqZ (ofCall (now (s .args .cells)) (s .args .l .0) caller) (pos (s .args .o .0))) (stage-test (c .before .before .before) _ (c .before .before .if1 .taken)))
+    ∙ ap (λ z. eqZ z (pos (s .args .o .0))) (handed _ _ (c .before .before .of-call2 .ok) (c .before .before .of-call2 .ensures))
+    ∙ sym (ap (_&& eqZ (ofCall (now (s .args .cells)) (s .args .l .0) caller) (pos (s .args .o .0))) (stage-test (c .before .before .before .before) _ (c .before .before .before .if1 .taken)))
 
 returns-2 : tie.Need-returns-2
 unfolding isReply
@@ -50,6 +53,7 @@ is-reply-spec =
     of-call-requires
     is-number-requires
     of-call-requires-2
+    cast-is-number
     is-number-requires-2
     returns
     returns-2)

@@ -1,5 +1,5 @@
 -- `layout::of_object` meets its contract: the cell is that of the place. Assumes nothing.
-use Prim.Native.Nat.{_+_, _-_, _*_}
+use Prim.Native.Nat.{_+_, _*_}
 use borrow.Author.Needs.{needs}
 use denote.Ref.{now}
 use lib.IntN.{pos}
@@ -10,6 +10,9 @@ use mir.ValLaws.{toZ-ofZ}
 use Rattle.layout.specs.Layout.{firstObject, objectCells, ofObject, read, cellOf}
 use Rattle.layout.proofs.of_object.Statement.{statement}
 use Rattle.layout.proofs.of_object.Tie as tie
+
+cast-before : tie.Need-cast-before
+cast-before c = search needs
 
 before-requires : tie.Need-before-requires
 before-requires c κs = search needs
@@ -29,11 +32,12 @@ cell-requires c κs = search needs
 returns : tie.Need-returns
 unfolding ofObject read cellOf
 returns c =
-    let s = c .before .before in
+    let s = c .before .before .before in
     toZ-ofZ w32 _ (record { sfits = c .cell .ok })
     ∙ c .cell .ensures
     ∙ ap (λ rows. getD (now (s .args .cells)) (firstObject + rows * objectCells + s .args .field) (pos 0)) (c .before .before2 .ensures)
 
 pub of-object-spec : {M : Type 1} → statement M
 of-object-spec =
-    tie.close (tie.spec before-requires mul-cell add-cell add-cell-2 cell-requires returns)
+    tie.close
+    (tie.spec cast-before before-requires mul-cell add-cell add-cell-2 cell-requires returns)

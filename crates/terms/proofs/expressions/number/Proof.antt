@@ -33,7 +33,7 @@ enum-known-p-2 : tie.Need-enum-known-p-2
 enum-known-p-2 c = search needs
 
 returns : tie.Need-returns
-returns c = 
+returns c =
     let n = c .before .p .given in
     ap (λ z. Got (n .0 .0) (Value z)) (toZ-ofZ w32 (pos (n .0 .1 .0)) (small (c .before)))
     ∙ answer-got _ _ _ _ (number-got _ _ _ (sym (c .before .before .before .decimal .ensures) ∙ n .1))

@@ -21,7 +21,7 @@ enum-known-p-2 : tie.Need-enum-known-p-2
 enum-known-p-2 c = search needs
 
 returns : tie.Need-returns
-returns c = 
+returns c =
     let x = c .before .before .p .given in
     ap (λ z. Got (x .0 .0) (Value z)) (handed _ _ (c .held .ok) (c .held .ensures))
     ∙ answer-got _ _ _ _ (variable-got _ _ _ (sym (c .before .before .before .before .variable .ensures) ∙ x .1))

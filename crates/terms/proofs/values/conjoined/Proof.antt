@@ -51,7 +51,7 @@ returns-2 c = rw (c .before .before .before .left .given .1, c .enum-told2 .give
 
 returns-3 : tie.Need-returns-3
 unfolding conjoined
-returns-3 c = 
+returns-3 c =
     rw (c .before .before .before .before .before .before .before .before .left .given .1, c .before .before .before .before .before .right .given .1)
     (ap Value (handed _ _ (c .truth .ok)
     (c .truth .ensures ∙ ap truth (c .before .joined .ensures ∙ ap₂ (junction _)

@@ -24,7 +24,7 @@ enum-told c = search needs
 
 returns : tie.Need-returns
 unfolding tested
-returns c = 
+returns c =
     ap Value (handed _ _ (c .truth .ok) (c .truth .ensures ∙ ap truth (c .before .is-true .ensures ∙ ap isTrue (toZ-ofZ w32 _ (record { sfits = c .before .before .known-told .given .0 .1 })))))
     ∙ sym (ap tested (c .before .before .before .w .given .1))
 

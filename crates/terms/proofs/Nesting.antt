@@ -1,0 +1,79 @@
+-- What closes a bracket, what stands in one, and the number that falls at each call of a reader. Assumes nothing.
+use Prim.Native.Nat.{ℕ, zero, suc, _+_, _-_, _*_, _≤_, _<_}
+use Prim.Native.Char.{code}
+use mathlib.Core.List.{[], _∷_}
+use mathlib.Core.Path.{_≡_, refl, sym, ap, _∙_}
+use native.Mathlib.Nat.{suc-mul}
+use native.Mathlib.Omega.{arith}
+use borrow.Author.Tests.{eq-eqb, ne-eqb}
+use Rattle.terms.specs.declared.Limits.{Limits}
+use Rattle.terms.specs.declared.Start.{Start}
+use Rattle.terms.specs.Bytes.{Text, byteAt}
+use Rattle.terms.specs.Expressions.{Reading, startOf, factorBy, factor, expression, inside}
+use Rattle.terms.specs.Parsed.{Parsed, got, bad, next, mapped, word, closed}
+use Rattle.terms.proofs.Following.{mapped-got, mapped-bad, next-of-got, next-of-bad}
+use Rattle.terms.proofs.Moving.{word-yes, word-no, word-none}
+
+-- a closing byte: after a refusal, where it stands, where it does not
+module _ {A : Type 0} (b : ℕ) (s : Text) (q : Parsed A) (p : ℕ) where
+  pub closed-fail : q ≡ bad p → closed b s q ≡ bad p
+  unfolding closed
+  closed-fail e = ap (λ r. next r (λ at a. mapped (λ _. a) (word (b ∷ []) s at))) e ∙ next-of-bad p _
+
+  module _ (a : A) (e : q ≡ got p a) where
+    at-closing : closed b s q ≡ mapped (λ _. a) (word (b ∷ []) s p)
+    unfolding closed
+    at-closing = ap (λ r. next r (λ at a. mapped (λ _. a) (word (b ∷ []) s at))) e ∙ next-of-got p a _
+
+    pub closed-go : byteAt s p ≡ b → closed b s q ≡ got (p + 1) a
+    closed-go f =
+        at-closing
+        ∙ ap (mapped (λ _. a)) (word-yes b [] s p (eq-eqb _ b f) ∙ word-none s (p + 1))
+        ∙ mapped-got (λ _. a) (p + 1) tt
+
+    pub closed-none : (byteAt s p ≡ b → ⊥) → closed b s q ≡ bad p
+    closed-none n = at-closing ∙ ap (mapped (λ _. a)) (word-no b [] s p (ne-eqb _ b n)) ∙ mapped-bad (λ _. a) p
+
+module _ {A : Type 0} (R : Reading A) (lim : Limits) (s : Text) where
+  -- a factor, by what it begins with
+  pub factor-by : (within : ℕ → Parsed A) (at : ℕ) (b : Start) → startOf (byteAt s at) ≡ b → factor R lim s within at ≡ factorBy R lim s b within at
+  unfolding factor
+  factor-by within at b e = ap (λ x. factorBy R lim s x within at) e
+
+  -- no bracket is allowed, or one more is
+  pub inside-none : (left at : ℕ) → left ≡ 0 → inside R lim s left at ≡ bad at
+  inside-none zero at e = unfold inside in refl
+  inside-none (suc left) at e = absurd (omega arith)
+
+  inside-more : (left at : ℕ) → inside R lim s (suc left) at ≡ closed (code ")") s (expression R lim s left (at + 1))
+  unfolding inside
+  inside-more left at = refl
+
+  pub inside-some : (left at : ℕ) → (left ≡ 0 → ⊥) → inside R lim s left at ≡ closed (code ")") s (expression R lim s (left - 1) (at + 1))
+  inside-some zero at n = absurd (n refl)
+  inside-some (suc left) at n =
+      let e : left ≡ suc left - 1 = omega arith in
+      inside-more left at ∙ ap (λ k. closed (code ")") s (expression R lim s k (at + 1))) e
+
+-- the number that falls: the count of brackets still allowed, then the length left, then a rank among the readers
+unfoldable pub weight : ℕ → ℕ → ℕ → ℕ → ℕ
+weight end left at rank = (left * (end + 1) + (end - at)) * 8 + rank
+
+-- a reader of a lower rank, at the same place or after it
+pub weight-rank : (end left at p rank rank′ : ℕ) → at ≤ p → rank < rank′ → weight end left p rank < weight end left at rank′
+unfolding weight
+weight-rank end left at p rank rank′ h k = omega arith
+
+-- any reader, after the place
+pub weight-on : (end left at p rank rank′ : ℕ) → at < end → at < p → rank < 8 → weight end left p rank < weight end left at rank′
+unfolding weight
+weight-on end left at p rank rank′ h k r = omega arith
+
+weight-less : (end left k at p rank rank′ : ℕ) → k ≡ left → rank < 8 → weight end k p rank < weight end (suc left) at rank′
+unfolding weight
+weight-less end left k at p rank rank′ e r = rw (e, suc-mul left (end + 1)) (omega arith)
+
+-- any reader, with a bracket less
+pub weight-inside : (end left at p rank rank′ : ℕ) → (left ≡ 0 → ⊥) → rank < 8 → weight end (left - 1) p rank < weight end left at rank′
+weight-inside end zero at p rank rank′ n r = absurd (n refl)
+weight-inside end (suc left) at p rank rank′ n r = weight-less end left (suc left - 1) at p rank rank′ (omega arith) r
