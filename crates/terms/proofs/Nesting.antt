@@ -1,6 +1,5 @@
 -- What closes a bracket, what stands in one, and the number that falls at each call of a reader. Assumes nothing.
 use Prim.Native.Nat.{ℕ, zero, suc, _+_, _-_, _*_, _≤_, _<_}
-use Prim.Native.Char.{code}
 use mathlib.Core.List.{[], _∷_}
 use mathlib.Core.Path.{_≡_, refl, sym, ap, _∙_}
 use native.Mathlib.Nat.{suc-mul}
@@ -9,8 +8,8 @@ use borrow.Author.Tests.{eq-eqb, ne-eqb}
 use Rattle.terms.specs.declared.Limits.{Limits}
 use Rattle.terms.specs.declared.Start.{Start}
 use Rattle.terms.specs.Bytes.{Text, byteAt}
-use Rattle.terms.specs.Expressions.{Reading, startOf, factorBy, factor, expression, inside}
-use Rattle.terms.specs.Parsed.{Parsed, got, bad, next, mapped, word, closed}
+use Rattle.terms.specs.Expressions.{Reading, startOf, factorBy, factor}
+use Rattle.terms.specs.Parsed.{Parsed, got, bad, next, mapped, word, closed, opened}
 use Rattle.terms.proofs.Following.{mapped-got, mapped-bad, next-of-got, next-of-bad}
 use Rattle.terms.proofs.Moving.{word-yes, word-no, word-none}
 
@@ -40,20 +39,26 @@ module _ {A : Type 0} (R : Reading A) (lim : Limits) (s : Text) where
   unfolding factor
   factor-by within at b e = ap (λ x. factorBy R lim s x within at) e
 
-  -- no bracket is allowed, or one more is
-  pub inside-none : (left at : ℕ) → left ≡ 0 → inside R lim s left at ≡ bad at
-  inside-none zero at e = unfold inside in refl
-  inside-none (suc left) at e = absurd (omega arith)
+-- no bracket is allowed, or one more is
+module _ {A : Type 0} (b : ℕ) (s : Text) (item : ℕ → ℕ → Parsed A) where
+  pub opened-none : (left at : ℕ) → left ≡ 0 → opened b s item left at ≡ bad at
+  opened-none zero at e = unfold opened in refl
+  opened-none (suc left) at e = absurd (omega arith)
 
-  inside-more : (left at : ℕ) → inside R lim s (suc left) at ≡ closed (code ")") s (expression R lim s left (at + 1))
-  unfolding inside
-  inside-more left at = refl
+  opened-more : (left at : ℕ) → opened b s item (suc left) at ≡ closed b s (item left (at + 1))
+  unfolding opened
+  opened-more left at = refl
 
-  pub inside-some : (left at : ℕ) → (left ≡ 0 → ⊥) → inside R lim s left at ≡ closed (code ")") s (expression R lim s (left - 1) (at + 1))
-  inside-some zero at n = absurd (n refl)
-  inside-some (suc left) at n =
+  pub opened-some : (left at : ℕ) → (left ≡ 0 → ⊥) → opened b s item left at ≡ closed b s (item (left - 1) (at + 1))
+  opened-some zero at n = absurd (n refl)
+  opened-some (suc left) at n =
       let e : left ≡ suc left - 1 = omega arith in
-      inside-more left at ∙ ap (λ k. closed (code ")") s (expression R lim s k (at + 1))) e
+      opened-more left at ∙ ap (λ k. closed b s (item k (at + 1))) e
+
+-- a number that is not 0
+pub positive : (n : ℕ) → (n ≡ 0 → ⊥) → 1 ≤ n
+positive zero h = absurd (h refl)
+positive (suc n) h = omega arith
 
 -- the number that falls: the count of brackets still allowed, then the length left, then a rank among the readers
 unfoldable pub weight : ℕ → ℕ → ℕ → ℕ → ℕ

@@ -12,8 +12,10 @@ use Rattle.terms.specs.Bytes.{Text, byteAt}
 use Rattle.terms.specs.declared.Limits.{Limits}
 use Rattle.terms.specs.Parsed.{Parsed, bad, mapped, closed}
 use Rattle.terms.specs.Expressions.{Reading, startOf, star, sign, comparison, factorBy, factor, product, sum, comparing, expression}
+use Rattle.terms.specs.declared.AtomStart.{AtomStart}
+use Rattle.terms.specs.declared.AtomStart.the-variants as AtomStart
 use Rattle.terms.specs.declared.Junction.{Junction}
-use Rattle.terms.specs.Guards.{GuardReading, AtomStart, theWait, aReply, aTest, aGuard, noAtom, atomStartOf, ampersand, bar, atomBy, atom, conjunction, disjunction, guard}
+use Rattle.terms.specs.Guards.{GuardReading, atomStartOf, ampersand, bar, atomBy, atom, conjunction, disjunction, guard}
 use Rattle.terms.specs.Trees.{Expression, Guard, trees, guardTrees, fold, foldGuard}
 use Rattle.terms.specs.Nothing.{nothing, guardNothing}
 use Rattle.terms.specs.Values.{Surroundings, values, guardValues, valueOf, guardOf}
@@ -73,12 +75,12 @@ module _ {A B G H : Type 0} {R : Reading A} {S : Reading B} {Q : GuardReading A 
       (inside : ℕ → Parsed G) (inside′ : ℕ → Parsed H) (insides : (at : ℕ) → mapped k (inside at) ≡ inside′ at) where
     respects-atom-start : (b : AtomStart) (at : ℕ) → mapped k (atomBy R Q lim s b test inside at) ≡ atomBy S P lim s b test′ inside′ at
     unfolding atomBy
-    respects-atom-start theWait at = mapped-twice k _ _ (λ _. q .waits) _
-    respects-atom-start aReply at = mapped-twice k _ _ (q .replies) _
-    respects-atom-start aTest at =
+    respects-atom-start AtomStart.Wait at = mapped-twice k _ _ (λ _. q .waits) _
+    respects-atom-start AtomStart.Reply at = mapped-twice k _ _ (q .replies) _
+    respects-atom-start AtomStart.Test at =
         mapped-twice k _ _ (q .tests) _ ∙ sym (mapped-mapped (P .test) h (test at)) ∙ ap (mapped (P .test)) (testing at)
-    respects-atom-start aGuard at = insides at
-    respects-atom-start noAtom at = mapped-bad k at
+    respects-atom-start AtomStart.Guard at = insides at
+    respects-atom-start AtomStart.Nothing at = mapped-bad k at
 
     respects-atom : (at : ℕ) → mapped k (atom R Q lim s test inside at) ≡ atom S P lim s test′ inside′ at
     unfolding atom

@@ -8,10 +8,14 @@ use lib.Dec.{ltb}
 use lib.ListN.{length}
 use Rattle.whole.specs.declared.Operator.{Operator}
 use Rattle.whole.specs.declared.Operator.the-variants.{Times}
+use Rattle.terms.specs.declared.AtomStart.{AtomStart}
+use Rattle.terms.specs.declared.AtomStart.the-variants as AtomStart
+use Rattle.terms.specs.declared.Junction.the-variants.{Both, Either}
 use Rattle.terms.specs.declared.Start.{Start}
 use Rattle.terms.specs.declared.Start.the-variants as Start
 use Rattle.terms.specs.Bytes.{Text, byteAt, digit}
 use Rattle.terms.specs.Expressions.{among, star, sign, comparison, startOf}
+use Rattle.terms.specs.Guards.{ampersand, bar, atomStartOf}
 use Rattle.terms.proofs.Bytes.{among-digits}
 use Rattle.terms.proofs.Moving.{past-end}
 
@@ -62,3 +66,40 @@ start-within s at b e n = go (ltb at (length s)) refl
     go true f = ltb-true at (length s) f
     go false f =
         absurd (n (sym e ∙ ap startOf (past-end s at (ltb-false at (length s) f)) ∙ (unfold startOf digit in refl)))
+
+-- what joins guards, and what an atom begins with
+module _ (b : ℕ) where
+  pub ampersand-none : (b ≡ 38 → ⊥) → ampersand b ≡ none
+  unfolding ampersand
+  ampersand-none n = rw (ne-eqb b 38 n, ampersand)
+
+  pub bar-none : (b ≡ 124 → ⊥) → bar b ≡ none
+  unfolding bar
+  bar-none n = rw (ne-eqb b 124 n, bar)
+
+  pub ampersand-some : b ≡ 38 → ampersand b ≡ some Both
+  unfolding ampersand
+  ampersand-some e = ap ampersand e
+
+  pub bar-some : b ≡ 124 → bar b ≡ some Either
+  unfolding bar
+  bar-some e = ap bar e
+
+  pub begins-nothing : (b ≡ 119 → ⊥) → (b ≡ 91 → ⊥) → (b ≡ 40 → ⊥) → (b ≡ 97 → ⊥) → (b ≡ 118 → ⊥) → atomStartOf b ≡ AtomStart.Nothing
+  unfolding atomStartOf
+  begins-nothing w t g a v = rw (ne-eqb b 119 w, ne-eqb b 91 t, ne-eqb b 40 g, ne-eqb b 97 a, ne-eqb b 118 v, atomStartOf)
+
+pub ampersand-zero : ampersand 0 ≡ none
+unfolding ampersand
+ampersand-zero = refl
+
+pub bar-zero : bar 0 ≡ none
+unfolding bar
+bar-zero = refl
+
+pub atom-within : (s : Text) (at : ℕ) (b : AtomStart) → atomStartOf (byteAt s at) ≡ b → (b ≡ AtomStart.Nothing → ⊥) → at < length s
+atom-within s at b e n = go (ltb at (length s)) refl
+  where
+    go : (t : Bool) → ltb at (length s) ≡ t → at < length s
+    go true f = ltb-true at (length s) f
+    go false f = absurd (n (sym e ∙ ap atomStartOf (past-end s at (ltb-false at (length s) f)) ∙ (unfold atomStartOf in refl)))

@@ -95,8 +95,3 @@ module _ {A : Type 0} (R : Reading A) (lim : Limits) (s : Text) where
   unfoldable pub expression : ℕ → ℕ → Parsed A
   expression zero = comparing bad
   expression (suc left) = comparing (λ at. closed (code ")") s (expression left (at + 1)))
-
-  -- what stands at an opening bracket, with so many brackets still allowed
-  unfoldable pub inside : ℕ → ℕ → Parsed A
-  inside zero at = bad at
-  inside (suc left) at = closed (code ")") s (expression left (at + 1))

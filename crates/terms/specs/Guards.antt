@@ -5,6 +5,8 @@ use mathlib.Core.Bool.{Bool, true, false}
 use mathlib.Core.Option.{Option, none, some}
 use lib.Dec.{eqb}
 use lib.ListN.{length}
+use Rattle.terms.specs.declared.AtomStart.{AtomStart}
+use Rattle.terms.specs.declared.AtomStart.the-variants as AtomStart
 use Rattle.terms.specs.declared.Junction.{Junction}
 use Rattle.terms.specs.declared.Junction.the-variants.{Both, Either}
 use Rattle.terms.specs.declared.Variable.{Variable}
@@ -28,19 +30,16 @@ unfoldable pub bar : ℕ → Option Junction
 bar b = elim (eqb b (code "|")) [ true ↦ some Either | false ↦ none ]
 
 -- "an atom is `wait`, a variable followed by `?`, an expression in square brackets, or a guard in round brackets": its first byte tells
-pub data AtomStart : Type 0 where
-  theWait aReply aTest aGuard noAtom : AtomStart
-
 unfoldable pub atomStartOf : ℕ → AtomStart
 atomStartOf b = elim (eqb b (code "w")) [
-  | true ↦ theWait
+  | true ↦ AtomStart.Wait
   | false ↦ elim (eqb b (code "[")) [
-    | true ↦ aTest
+    | true ↦ AtomStart.Test
     | false ↦ elim (eqb b (code "(")) [
-      | true ↦ aGuard
+      | true ↦ AtomStart.Guard
       | false ↦ elim (eqb b (code "a")) [
-        | true ↦ aReply
-        | false ↦ elim (eqb b (code "v")) [ true ↦ aReply | false ↦ noAtom ]
+        | true ↦ AtomStart.Reply
+        | false ↦ elim (eqb b (code "v")) [ true ↦ AtomStart.Reply | false ↦ AtomStart.Nothing ]
       ]
     ]
   ]
@@ -49,11 +48,11 @@ atomStartOf b = elim (eqb b (code "w")) [
 module _ {A G : Type 0} (R : Reading A) (Q : GuardReading A G) (lim : Limits) (s : Text) where
   -- an atom by its start, where `test` and `inside` read what stands at an opening bracket, square or round
   unfoldable pub atomBy : AtomStart → (ℕ → Parsed A) → (ℕ → Parsed G) → ℕ → Parsed G
-  atomBy theWait test inside at = mapped (λ _. Q .wait) (word (bytes "wait") s at)
-  atomBy aReply test inside at = mapped (Q .reply) (closed (code "?") s (variable lim s at))
-  atomBy aTest test inside at = mapped (Q .test) (test at)
-  atomBy aGuard test inside at = inside at
-  atomBy noAtom test inside at = bad at
+  atomBy AtomStart.Wait test inside at = mapped (λ _. Q .wait) (word (bytes "wait") s at)
+  atomBy AtomStart.Reply test inside at = mapped (Q .reply) (closed (code "?") s (variable lim s at))
+  atomBy AtomStart.Test test inside at = mapped (Q .test) (test at)
+  atomBy AtomStart.Guard test inside at = inside at
+  atomBy AtomStart.Nothing test inside at = bad at
 
   unfoldable pub atom : (ℕ → Parsed A) → (ℕ → Parsed G) → ℕ → Parsed G
   atom test inside at = atomBy (atomStartOf (byteAt s at)) test inside at

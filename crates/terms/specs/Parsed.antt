@@ -37,6 +37,11 @@ ended s (bad at) = bad at
 unfoldable pub closed : {A : Type 0} → ℕ → Text → Parsed A → Parsed A
 closed b s p = next p (λ at a. mapped (λ _. a) (word (b ∷ []) s at))
 
+-- what stands at an opening bracket: an item with a bracket less, and a closing byte. With none left no bracket may be opened
+unfoldable pub opened : {A : Type 0} → ℕ → Text → (ℕ → ℕ → Parsed A) → ℕ → ℕ → Parsed A
+opened b s item zero at = bad at
+opened b s item (suc left) at = closed b s (item left (at + 1))
+
 -- as long as a step goes on from a place, at most so many times: what the step makes of what was read so far
 unfoldable pub repeated : {A : Type 0} → (ℕ → A → Option (Parsed A)) → ℕ → ℕ → A → Parsed A
 repeated step zero at a = got at a

@@ -53,12 +53,12 @@ unfoldable pub junction : Junction → Bool → Bool → Bool
 junction Both p q = p && q
 junction Either p q = p || q
 
--- "All atoms are worked out."
-unfoldable pub conjoined : Junction → Worked → Worked → Worked
-conjoined j (Value x) (Value y) = Value (truth (junction j (isTrue x) (isTrue y)))
-conjoined j (Value x) OutOfRange = OutOfRange
-conjoined j OutOfRange (Value y) = OutOfRange
-conjoined j OutOfRange OutOfRange = OutOfRange
+-- two guards joined by `&` or `|`. "All atoms are worked out."
+unfoldable pub joined : Junction → Worked → Worked → Worked
+joined j (Value x) (Value y) = Value (truth (junction j (isTrue x) (isTrue y)))
+joined j (Value x) OutOfRange = OutOfRange
+joined j OutOfRange (Value y) = OutOfRange
+joined j OutOfRange OutOfRange = OutOfRange
 
 -- a guard gives 1 where it is enabled and 0 where it is not, or is out of range
 abbrev pub guardValues : Surroundings → GuardReading Worked Worked
@@ -66,7 +66,7 @@ guardValues e = record {
   wait = Value (truth (isCleared e));
   reply = λ x. Value (truth (isReplied e x));
   test = tested;
-  join = conjoined;
+  join = joined;
 }
 
 -- the value of a tree

@@ -116,7 +116,7 @@ fn variable(s: &[u8], at: usize, cells: &[i32], around: Around) -> ReadValue
 }
 
 // A word as a factor, with its value.
-fn named(w: &[u8], value: Worked, s: &[u8], at: usize) -> ReadValue
+pub fn named(w: &[u8], value: Worked, s: &[u8], at: usize) -> ReadValue
     requires { ⌜ at < length (now s) ⌝ }
     ensures { λ r. ⌜ r ≡ asValue (mapped (λ _. value) (word (now (w .entry)) (now (s .entry)) at)) ⌝ }
 {
@@ -126,10 +126,17 @@ fn named(w: &[u8], value: Worked, s: &[u8], at: usize) -> ReadValue
     }
 }
 
-// What stands in round brackets, from the opening one on.
-fn bracketed(s: &[u8], at: usize, cells: &[i32], around: Around, left: usize) -> ReadValue
-    requires { ⌜ at < length (now s) ⌝ }
-    ensures { λ r. ⌜ r ≡ asValue (Readers.insideRead (now (cells .entry)) around (now (s .entry)) left at) ⌝ }
+// An expression in brackets, from the opening one on, by the byte that closes them.
+pub fn bracketed(
+    s: &[u8],
+    at: usize,
+    cells: &[i32],
+    around: Around,
+    left: usize,
+    close: u8,
+) -> ReadValue
+    requires { ⌜ (at < length (now s)) × (0 < close) ⌝ }
+    ensures { λ r. ⌜ r ≡ asValue (Readers.insideRead (now (cells .entry)) around (now (s .entry)) close left at) ⌝ }
 {
     if left == 0 {
         return ReadValue::Bad(at);
@@ -137,7 +144,7 @@ fn bracketed(s: &[u8], at: usize, cells: &[i32], around: Around, left: usize) ->
     match expression(s, at + 1, cells, around, left - 1) {
         ReadValue::Bad(p) => ReadValue::Bad(p),
         ReadValue::Got(p, a) => {
-            if leaves::byte_at(s, p) == b')' {
+            if leaves::byte_at(s, p) == close {
                 ReadValue::Got(p + 1, a)
             } else {
                 ReadValue::Bad(p)
@@ -155,7 +162,7 @@ fn factor(s: &[u8], at: usize, cells: &[i32], around: Around, left: usize) -> Re
         Start::Variable => variable(s, at, cells, around),
         Start::Itself => named(b"self", values::itself(around.here), s, at),
         Start::Caller => named(b"caller", values::caller(cells, around.here), s, at),
-        Start::Opening => bracketed(s, at, cells, around, left),
+        Start::Opening => bracketed(s, at, cells, around, left, b')'),
         Start::Nothing => ReadValue::Bad(at),
     }
 }

@@ -5,6 +5,7 @@ use whole::Operator;
 use whole::Worked;
 
 pub mod expressions;
+pub mod guards;
 pub mod leaves;
 pub mod values;
 
@@ -39,6 +40,15 @@ pub enum Start {
     Itself,
     Caller,
     Opening,
+    Nothing,
+}
+
+// "an atom is `wait`, a variable followed by `?`, an expression in square brackets, or a guard in round brackets": its first byte tells.
+pub enum AtomStart {
+    Wait,
+    Reply,
+    Test,
+    Guard,
     Nothing,
 }
 

@@ -6,6 +6,7 @@ use layout::LabelFound;
 use whole::Worked;
 ghost use mathlib.Core.Path.{_≡_};
 ghost use lib.IntN.{pos};
+ghost use Rattle.whole.specs.Whole.{truth};
 ghost use Rattle.whole.specs.declared.Worked.the-variants.{Value};
 ghost use Rattle.layout.specs.Layout as Layout;
 ghost use Rattle.terms.specs.Answers.{surroundings};
@@ -45,6 +46,13 @@ pub fn is_cleared(cells: &[i32], here: Here) -> bool
     whole::is_number(layout::of_call(cells, here.label, layout::CLEARED), 1)
 }
 
+// `wait` as an atom of a guard.
+pub fn waited(cells: &[i32], here: Here) -> Worked
+    ensures { λ r. ⌜ r ≡ Value (truth (Values.isCleared (surroundings (now (cells .entry)) here))) ⌝ }
+{
+    Worked::Value(whole::truth(is_cleared(cells, here)))
+}
+
 // "`X?` is true as for `get`, but takes nothing"
 pub fn is_replied(cells: &[i32], here: Here, x: Variable) -> bool
     ensures { λ r. ⌜ r ≡ Values.isReplied (surroundings (now (cells .entry)) here) x ⌝ }
@@ -66,7 +74,7 @@ pub fn tested(w: Worked) -> Worked
 }
 
 // Two tests joined.
-fn joined(j: Junction, left: bool, right: bool) -> bool
+fn junction(j: Junction, left: bool, right: bool) -> bool
     ensures { λ r. ⌜ r ≡ Values.junction j left right ⌝ }
 {
     match j {
@@ -76,14 +84,14 @@ fn joined(j: Junction, left: bool, right: bool) -> bool
 }
 
 // Two guards joined. "All atoms are worked out."
-pub fn conjoined(j: Junction, left: Worked, right: Worked) -> Worked
-    ensures { λ r. ⌜ r ≡ Values.conjoined j left right ⌝ }
+pub fn joined(j: Junction, left: Worked, right: Worked) -> Worked
+    ensures { λ r. ⌜ r ≡ Values.joined j left right ⌝ }
 {
     match left {
         Worked::OutOfRange => Worked::OutOfRange,
         Worked::Value(x) => match right {
             Worked::OutOfRange => Worked::OutOfRange,
-            Worked::Value(y) => Worked::Value(whole::truth(joined(
+            Worked::Value(y) => Worked::Value(whole::truth(junction(
                 j,
                 whole::is_true(x),
                 whole::is_true(y),

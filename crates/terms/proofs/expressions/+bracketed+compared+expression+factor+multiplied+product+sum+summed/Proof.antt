@@ -11,8 +11,8 @@ use mathlib.Core.Path.{_≡_, refl, sym, ap, _∙_}
 use native.Mathlib.Omega.{arith}
 use Rattle.terms.proofs.Answers.{value-got, value-bad, operator-some, operator-none}
 use Rattle.terms.proofs.Moving.{within-text}
-use Rattle.terms.proofs.Nesting.{closed-fail, closed-go, closed-none, factor-by, inside-none, inside-some, weight, weight-rank, weight-on, weight-inside}
-use Rattle.terms.proofs.Onward.{moves-factor, moves-product, moves-sum, moves-inside, expression-is}
+use Rattle.terms.proofs.Nesting.{closed-fail, closed-go, closed-none, factor-by, opened-none, opened-some, positive, weight, weight-rank, weight-on, weight-inside}
+use Rattle.terms.proofs.Onward.{moves-factor, moves-product, moves-sum, moves-opened, moves-expression, expression-is}
 use Rattle.terms.proofs.Series.{operator-within, series-go, series-fail, joined-stop, joined-go, joined-fail, once-go, once-fail}
 use Rattle.terms.proofs.Starts.{star-zero, sign-zero, comparison-zero, start-within}
 use Rattle.terms.proofs.expressions.+bracketed+compared+expression+factor+multiplied+product+sum+summed.Lts-bracketed as bracketed-lts
@@ -162,11 +162,6 @@ sum-claims t = (product-below t, product.Post, summed-below t, summed.Post)
 abbrev summed-claims : ℕ → summed-lts.Claims
 summed-claims t = (sign-at-reads.Asked, sign-at-reads.Learnt, product-below t, product.Post, applied-reads.Asked, applied-reads.Learnt, summed-below t, summed.Post)
 
--- a number that is not 0
-positive : (n : ℕ) → (n ≡ 0 → ⊥) → 1 ≤ n
-positive zero h = absurd (h refl)
-positive (suc n) h = omega arith
-
 -- the operator that `multiplied` found
 multiplied-operator : (t : ℕ) (c : multiplied-lts.After-o (multiplied-claims t) (multiplied-at t) multiplied.Post)
     → starOf (byteAt (c .before .before .before .before .args .s .now) (c .before .before .before .before .args .at)) ≡ some (c .o .given .0 .0)
@@ -184,11 +179,11 @@ compared-operator t c = operator-some _ _ (sym (c .before .before .comparison-at
 
 bracketed-returns : (t : ℕ) → bracketed-lts.Need-returns (bracketed-claims t) (bracketed-at t) bracketed.Post
 unfolding asValue
-bracketed-returns t c = sym (ap asValue (inside-none _ _ _ _ _ (c .if1 .taken)))
+bracketed-returns t c = sym (ap asValue (opened-none _ _ _ _ _ (c .if1 .taken)))
 
 bracketed-add-expression : (t : ℕ) → bracketed-lts.Need-add-expression (bracketed-claims t) (bracketed-at t) bracketed.Post
 bracketed-add-expression t c =
-    let h = c .before .before .pre .1 in
+    let h = c .before .before .pre .1 .0 in
     omega arith
 
 bracketed-sub-expression : (t : ℕ) → bracketed-lts.Need-sub-expression (bracketed-claims t) (bracketed-at t) bracketed.Post
@@ -209,29 +204,29 @@ bracketed-enum-known-p-2 t c = search needs
 bracketed-byte-at-requires : (t : ℕ) → bracketed-lts.Need-byte-at-requires (bracketed-claims t) (bracketed-at t) bracketed.Post
 bracketed-byte-at-requires t c κs = search needs
 
-bracketed-add-t17 : (t : ℕ) → bracketed-lts.Need-add-t17 (bracketed-claims t) (bracketed-at t) bracketed.Post
-bracketed-add-t17 t c =
+bracketed-add-t18 : (t : ℕ) → bracketed-lts.Need-add-t18 (bracketed-claims t) (bracketed-at t) bracketed.Post
+bracketed-add-t18 t c =
     let s = c .before .before .before .before .before .before .before .before in
-    let w = within-text (s .args .s .now) (c .before .before .before .p2 .given .0 .0) 41 (sym (c .before .byte-at .ensures) ∙ c .if2 .taken) (omega arith) in
+    let w = within-text (s .args .s .now) (c .before .before .before .p2 .given .0 .0) (s .args .close) (sym (c .before .byte-at .ensures) ∙ c .if2 .taken) (s .pre .1 .1) in
     omega arith
 
 bracketed-returns-2 : (t : ℕ) → bracketed-lts.Need-returns-2 (bracketed-claims t) (bracketed-at t) bracketed.Post
 unfolding asValue
 bracketed-returns-2 t c =
     let s = c .before .before .before .before .before .before in
-    sym (ap asValue (inside-some _ _ _ _ _ (c .before .before .before .before .if1 .left) ∙ closed-fail 41 (s .args .s .now) _ _ (value-bad _ _ (sym (c .before .before .before .expression .ensures) ∙ c .before .p .given .1))))
+    sym (ap asValue (opened-some _ _ _ _ _ (c .before .before .before .before .if1 .left) ∙ closed-fail (s .args .close) (s .args .s .now) _ _ (value-bad _ _ (sym (c .before .before .before .expression .ensures) ∙ c .before .p .given .1))))
 
 bracketed-returns-3 : (t : ℕ) → bracketed-lts.Need-returns-3 (bracketed-claims t) (bracketed-at t) bracketed.Post
 unfolding asValue
 bracketed-returns-3 t c =
     let s = c .before .before .before .before .before .before .before .before in
-    sym (ap asValue (inside-some _ _ _ _ _ (c .before .before .before .before .before .before .if1 .left) ∙ closed-go 41 (s .args .s .now) _ _ _ (value-got _ _ _ (sym (c .before .before .before .before .before .expression .ensures) ∙ c .before .before .before .p2 .given .1)) (sym (c .before .byte-at .ensures) ∙ c .if2 .taken)))
+    sym (ap asValue (opened-some _ _ _ _ _ (c .before .before .before .before .before .before .if1 .left) ∙ closed-go (s .args .close) (s .args .s .now) _ _ _ (value-got _ _ _ (sym (c .before .before .before .before .before .expression .ensures) ∙ c .before .before .before .p2 .given .1)) (sym (c .before .byte-at .ensures) ∙ c .if2 .taken)))
 
 bracketed-returns-4 : (t : ℕ) → bracketed-lts.Need-returns-4 (bracketed-claims t) (bracketed-at t) bracketed.Post
 unfolding asValue
 bracketed-returns-4 t c =
     let s = c .before .before .before .before .before .before .before .before in
-    sym (ap asValue (inside-some _ _ _ _ _ (c .before .before .before .before .before .before .if1 .left) ∙ closed-none 41 (s .args .s .now) _ _ _ (value-got _ _ _ (sym (c .before .before .before .before .before .expression .ensures) ∙ c .before .before .before .p2 .given .1)) (λ e. c .if2 .left (c .before .byte-at .ensures ∙ e))))
+    sym (ap asValue (opened-some _ _ _ _ _ (c .before .before .before .before .before .before .if1 .left) ∙ closed-none (s .args .close) (s .args .s .now) _ _ _ (value-got _ _ _ (sym (c .before .before .before .before .before .expression .ensures) ∙ c .before .before .before .p2 .given .1)) (λ e. c .if2 .left (c .before .byte-at .ensures ∙ e))))
 
 compared-comparison-at-requires : (t : ℕ) → compared-lts.Need-comparison-at-requires (compared-claims t) (compared-at t) compared.Post
 compared-comparison-at-requires t c κs = search needs
@@ -298,7 +293,7 @@ expression-enum-known-p-2 t c = search needs
 expression-compared-requires : (t : ℕ) → expression-lts.Need-compared-requires (expression-claims t) (expression-at t) expression.Post
 expression-compared-requires t c κs =
     let s = c .before .before .before .before .before in
-    let m = moves-sum _ _ _ _ (moves-inside _ _ _ _) _ _ _ (value-got _ _ _ (sym (c .before .before .before .sum .ensures) ∙ c .before .p2 .given .1)) in
+    let m = moves-sum _ _ _ _ (moves-opened _ _ _ (moves-expression _ _ _) _) _ _ _ (value-got _ _ _ (sym (c .before .before .before .sum .ensures) ∙ c .before .p2 .given .1)) in
     let e = s .pre .0 in
     (omega (arith, weight-rank (length (s .args .s .now)) (s .args .left) (s .args .at) (c .before .p2 .given .0 .0) 6 7 (omega arith) (omega arith)), tt)
 
@@ -362,7 +357,7 @@ factor-bracketed-requires t c κs =
     let s = c .before .before .before .before in
     let e = s .pre .0 in (
       omega (arith, weight-rank (length (s .args .s .now)) (s .args .left) (s .args .at) (s .args .at) 0 1 (omega arith) (omega arith)),
-      start-within (s .args .s .now) (s .args .at) _ (sym (c .before .before .start-at .ensures) ∙ c .enum-told5 .given .1) (λ e. let z : _≡_ {A = ℕ} 0 1 = cc in omega arith),
+      (start-within (s .args .s .now) (s .args .at) _ (sym (c .before .before .start-at .ensures) ∙ c .enum-told5 .given .1) (λ e. let z : _≡_ {A = ℕ} 0 1 = cc in omega arith), omega arith),
     )
 
 factor-enum-told-6 : (t : ℕ) → factor-lts.Need-enum-told-6 (factor-claims t) (factor-at t) factor.Post
@@ -427,7 +422,7 @@ multiplied-multiplied-requires : (t : ℕ) → multiplied-lts.Need-multiplied-re
 multiplied-multiplied-requires t c κs =
     let s = c .before .before .before .before .before .before .before .before .before .before in
     let w = operator-within starOf star-zero (s .args .s .now) (s .args .at) _ (multiplied-operator t (c .before .before .before .before .before .before)) in
-    let m = moves-factor _ _ _ _ (moves-inside _ _ _ _) _ _ _ (value-got _ _ _ (sym (c .before .before .before .before .factor .ensures) ∙ c .before .before .p2 .given .1)) in
+    let m = moves-factor _ _ _ _ (moves-opened _ _ _ (moves-expression _ _ _) _) _ _ _ (value-got _ _ _ (sym (c .before .before .before .before .factor .ensures) ∙ c .before .before .p2 .given .1)) in
     let e = s .pre .0 in
     (omega (arith, weight-on (length (s .args .s .now)) (s .args .left) (s .args .at) (c .before .before .p2 .given .0 .0) 2 2 w (omega arith) (omega arith)), tt)
 
@@ -443,7 +438,7 @@ multiplied-returns-2 t c =
     let s = c .before .before .before .before .before .before .before .before .before in
     let o = multiplied-operator t (c .before .before .before .before .before) in
     sym (ap asValue (joined-fail starOf applied (s .args .s .now) _ (s .args .at) (s .args .a) _ o _
-    (moves-factor _ _ _ _ (moves-inside _ _ _ _)) star-zero (operator-within starOf star-zero (s .args .s .now) (s .args .at) _ o)
+    (moves-factor _ _ _ _ (moves-opened _ _ _ (moves-expression _ _ _) _)) star-zero (operator-within starOf star-zero (s .args .s .now) (s .args .at) _ o)
     (value-bad _ _ (sym (c .before .before .before .factor .ensures) ∙ c .before .p .given .1))))
 
 multiplied-returns-3 : (t : ℕ) → multiplied-lts.Need-returns-3 (multiplied-claims t) (multiplied-at t) multiplied.Post
@@ -453,7 +448,7 @@ multiplied-returns-3 t c =
     c .multiplied .ensures
     ∙ ap (λ w. asValue (multipliedRead (now (s .args .cells)) (s .args .around) (s .args .s .now) (s .args .left) (c .before .before .before .p2 .given .0 .0) w)) (c .before .applied .ensures)
     ∙ sym (ap asValue (joined-go starOf applied (s .args .s .now) _ (s .args .at) (s .args .a) _ o _
-    (moves-factor _ _ _ _ (moves-inside _ _ _ _)) star-zero (operator-within starOf star-zero (s .args .s .now) (s .args .at) _ o)
+    (moves-factor _ _ _ _ (moves-opened _ _ _ (moves-expression _ _ _) _)) star-zero (operator-within starOf star-zero (s .args .s .now) (s .args .at) _ o)
     _ (value-got _ _ _ (sym (c .before .before .before .before .before .factor .ensures) ∙ c .before .before .before .p2 .given .1))))
 
 product-factor-requires : (t : ℕ) → product-lts.Need-factor-requires (product-claims t) (product-at t) product.Post
@@ -471,7 +466,7 @@ product-enum-known-p-2 t c = search needs
 product-multiplied-requires : (t : ℕ) → product-lts.Need-multiplied-requires (product-claims t) (product-at t) product.Post
 product-multiplied-requires t c κs =
     let s = c .before .before .before .before .before in
-    let m = moves-factor _ _ _ _ (moves-inside _ _ _ _) _ _ _ (value-got _ _ _ (sym (c .before .before .before .factor .ensures) ∙ c .before .p2 .given .1)) in
+    let m = moves-factor _ _ _ _ (moves-opened _ _ _ (moves-expression _ _ _) _) _ _ _ (value-got _ _ _ (sym (c .before .before .before .factor .ensures) ∙ c .before .p2 .given .1)) in
     let e = s .pre .0 in
     (omega (arith, weight-rank (length (s .args .s .now)) (s .args .left) (s .args .at) (c .before .p2 .given .0 .0) 2 3 (omega arith) (omega arith)), tt)
 
@@ -503,7 +498,7 @@ sum-enum-known-p-2 t c = search needs
 sum-summed-requires : (t : ℕ) → sum-lts.Need-summed-requires (sum-claims t) (sum-at t) sum.Post
 sum-summed-requires t c κs =
     let s = c .before .before .before .before .before in
-    let m = moves-product _ _ _ _ (moves-inside _ _ _ _) _ _ _ (value-got _ _ _ (sym (c .before .before .before .product .ensures) ∙ c .before .p2 .given .1)) in
+    let m = moves-product _ _ _ _ (moves-opened _ _ _ (moves-expression _ _ _) _) _ _ _ (value-got _ _ _ (sym (c .before .before .before .product .ensures) ∙ c .before .p2 .given .1)) in
     let e = s .pre .0 in
     (omega (arith, weight-rank (length (s .args .s .now)) (s .args .left) (s .args .at) (c .before .p2 .given .0 .0) 4 5 (omega arith) (omega arith)), tt)
 
@@ -555,7 +550,7 @@ summed-summed-requires : (t : ℕ) → summed-lts.Need-summed-requires (summed-c
 summed-summed-requires t c κs =
     let s = c .before .before .before .before .before .before .before .before .before .before in
     let w = operator-within signOf sign-zero (s .args .s .now) (s .args .at) _ (summed-operator t (c .before .before .before .before .before .before)) in
-    let m = moves-product _ _ _ _ (moves-inside _ _ _ _) _ _ _ (value-got _ _ _ (sym (c .before .before .before .before .product .ensures) ∙ c .before .before .p2 .given .1)) in
+    let m = moves-product _ _ _ _ (moves-opened _ _ _ (moves-expression _ _ _) _) _ _ _ (value-got _ _ _ (sym (c .before .before .before .before .product .ensures) ∙ c .before .before .p2 .given .1)) in
     let e = s .pre .0 in
     (omega (arith, weight-on (length (s .args .s .now)) (s .args .left) (s .args .at) (c .before .before .p2 .given .0 .0) 4 4 w (omega arith) (omega arith)), tt)
 
@@ -571,7 +566,7 @@ summed-returns-2 t c =
     let s = c .before .before .before .before .before .before .before .before .before in
     let o = summed-operator t (c .before .before .before .before .before) in
     sym (ap asValue (joined-fail signOf applied (s .args .s .now) _ (s .args .at) (s .args .a) _ o _
-    (moves-product _ _ _ _ (moves-inside _ _ _ _)) sign-zero (operator-within signOf sign-zero (s .args .s .now) (s .args .at) _ o)
+    (moves-product _ _ _ _ (moves-opened _ _ _ (moves-expression _ _ _) _)) sign-zero (operator-within signOf sign-zero (s .args .s .now) (s .args .at) _ o)
     (value-bad _ _ (sym (c .before .before .before .product .ensures) ∙ c .before .p .given .1))))
 
 summed-returns-3 : (t : ℕ) → summed-lts.Need-returns-3 (summed-claims t) (summed-at t) summed.Post
@@ -581,7 +576,7 @@ summed-returns-3 t c =
     c .summed .ensures
     ∙ ap (λ w. asValue (summedRead (now (s .args .cells)) (s .args .around) (s .args .s .now) (s .args .left) (c .before .before .before .p2 .given .0 .0) w)) (c .before .applied .ensures)
     ∙ sym (ap asValue (joined-go signOf applied (s .args .s .now) _ (s .args .at) (s .args .a) _ o _
-    (moves-product _ _ _ _ (moves-inside _ _ _ _)) sign-zero (operator-within signOf sign-zero (s .args .s .now) (s .args .at) _ o)
+    (moves-product _ _ _ _ (moves-opened _ _ _ (moves-expression _ _ _) _)) sign-zero (operator-within signOf sign-zero (s .args .s .now) (s .args .at) _ o)
     _ (value-got _ _ _ (sym (c .before .before .before .before .before .product .ensures) ∙ c .before .before .before .p2 .given .1))))
 
 pub +bracketed+compared+expression+factor+multiplied+product+sum+summed-spec :
@@ -604,7 +599,7 @@ pub +bracketed+compared+expression+factor+multiplied+product+sum+summed-spec :
     (bracketed-enum-known-p t)
     (bracketed-enum-known-p-2 t)
     (bracketed-byte-at-requires t)
-    (bracketed-add-t17 t)
+    (bracketed-add-t18 t)
     (bracketed-returns-2 t)
     (bracketed-returns-3 t)
     (bracketed-returns-4 t))

@@ -1,31 +1,75 @@
 -- `terms::values::joined` meets its contract. Assumes nothing.
 use borrow.Author.Needs.{needs}
-use mathlib.Core.Path.{refl}
-use Rattle.terms.specs.Values.{junction}
+use mathlib.Core.Path.{_≡_, refl, sym, ap, ap₂, _∙_}
+use mir.Syntax.{w32}
+use mir.ValLaws.{toZ-ofZ}
+use Rattle.terms.specs.Values.{junction, joined}
+use Rattle.terms.specs.declared.Junction.{Junction}
+use Rattle.whole.proofs.Ranges.{handed}
+use Rattle.whole.specs.Whole.{truth, isTrue}
+use Rattle.whole.specs.declared.Worked.the-variants.{Value, OutOfRange}
+use Rattle.whole.specs.declared.Worked.{Worked}
 use Rattle.terms.proofs.values.joined.Statement.{statement}
 use Rattle.terms.proofs.values.joined.Tie as tie
+
+-- what did not fit on the left does not fit
+left-out : (j : Junction) (w : Worked) → joined j OutOfRange w ≡ OutOfRange
+unfolding joined
+left-out j (Value y) = refl
+left-out j OutOfRange = refl
 
 enum-told : tie.Need-enum-told
 enum-told c = search needs
 
+enum-known-left : tie.Need-enum-known-left
+enum-known-left c = search needs
+
 enum-told-2 : tie.Need-enum-told-2
 enum-told-2 c = search needs
 
+enum-known-right : tie.Need-enum-known-right
+enum-known-right c = search needs
+
+is-true-requires : tie.Need-is-true-requires
+is-true-requires c κs = search needs
+
+is-true-requires-2 : tie.Need-is-true-requires-2
+is-true-requires-2 c κs = search needs
+
+junction-requires : tie.Need-junction-requires
+junction-requires c κs = search needs
+
+truth-requires : tie.Need-truth-requires
+truth-requires c κs = search needs
+
 returns : tie.Need-returns
-unfolding junction
-returns c = rw (c .before .enum-told .given .1, c .if1 .taken) refl
+returns c = rw (c .enum-told .given .1) (sym (left-out _ _))
 
 returns-2 : tie.Need-returns-2
-unfolding junction
-returns-2 c = rw (c .before .enum-told .given .1, c .if1 .left) refl
+unfolding joined
+returns-2 c = rw (c .before .before .before .left .given .1, c .enum-told2 .given .1) refl
 
 returns-3 : tie.Need-returns-3
-unfolding junction
-returns-3 c = rw (c .before .enum-told2 .given .1, c .if2 .taken) refl
-
-returns-4 : tie.Need-returns-4
-unfolding junction
-returns-4 c = rw (c .before .enum-told2 .given .1, c .if2 .left) refl
+unfolding joined
+returns-3 c =
+    rw (c .before .before .before .before .before .before .before .before .left .given .1, c .before .before .before .before .before .right .given .1)
+    (ap Value (handed _ _ (c .truth .ok)
+    (c .truth .ensures ∙ ap truth (c .before .junction .ensures ∙ ap₂ (junction _)
+    (c .before .before .before .is-true .ensures ∙ ap isTrue (toZ-ofZ w32 _ (record { sfits = c .before .before .before .before .before .before .before .known-told .given .0 .1 })))
+    (c .before .before .is-true2 .ensures ∙ ap isTrue (toZ-ofZ w32 _ (record { sfits = c .before .before .before .before .known-told2 .given .0 .1 })))))))
 
 pub joined-spec : {M : Type 1} → statement M
-joined-spec = tie.close (tie.spec enum-told enum-told-2 returns returns-2 returns-3 returns-4)
+joined-spec =
+    tie.close
+    (tie.spec
+    enum-told
+    enum-known-left
+    enum-told-2
+    enum-known-right
+    is-true-requires
+    is-true-requires-2
+    junction-requires
+    truth-requires
+    returns
+    returns-2
+    returns-3)

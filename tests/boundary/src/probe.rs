@@ -1,0 +1,148 @@
+//! The readers of terms by themselves, with 8 brackets allowed.
+
+pub use independent::expression::Limits;
+
+/// How a reading went. The places count from the text's first byte.
+#[derive(Clone, Copy, Debug, PartialEq, Eq)]
+pub enum Reading {
+    /// A term up to this end, with this value; a guard's is 1 or 0.
+    Value { end: usize, value: i32 },
+    /// A term up to this end, with a result out of range somewhere in it.
+    OutOfRange { end: usize },
+    /// No term: the place of the refusal.
+    Refused { place: usize },
+}
+
+#[cfg(have_probe)]
+extern "C" {
+    fn probe_expression(
+        text: *const u8,
+        text_len: usize,
+        at: usize,
+        cells: *const i32,
+        cells_len: usize,
+        attrs: u8,
+        locals: u8,
+        object: u8,
+        label: u32,
+    ) -> u64;
+
+    fn probe_guard(
+        text: *const u8,
+        text_len: usize,
+        at: usize,
+        cells: *const i32,
+        cells_len: usize,
+        attrs: u8,
+        locals: u8,
+        object: u8,
+        label: u32,
+    ) -> u64;
+}
+
+/// Reads an expression from a place of the text, as far as the grammar goes.
+#[cfg(have_probe)]
+pub fn expression(
+    text: &[u8],
+    at: usize,
+    cells: &[i32],
+    limits: Limits,
+    object: u8,
+    label: u32,
+) -> Reading {
+    demand_place(text, at);
+    // SAFETY: each pointer stands with the length of its slice, and both slices
+    // live through the call; the function reads them alone and keeps no pointer.
+    // Of the rest it demands at most that `at` is in the text or at its end.
+    Reading::of(unsafe {
+        probe_expression(
+            text.as_ptr(),
+            text.len(),
+            at,
+            cells.as_ptr(),
+            cells.len(),
+            limits.attrs,
+            limits.locals,
+            object,
+            label,
+        )
+    })
+}
+
+/// Reads a guard from a place of the text, as far as the grammar goes.
+#[cfg(have_probe)]
+pub fn guard(
+    text: &[u8],
+    at: usize,
+    cells: &[i32],
+    limits: Limits,
+    object: u8,
+    label: u32,
+) -> Reading {
+    demand_place(text, at);
+    // SAFETY: as for an expression.
+    Reading::of(unsafe {
+        probe_guard(
+            text.as_ptr(),
+            text.len(),
+            at,
+            cells.as_ptr(),
+            cells.len(),
+            limits.attrs,
+            limits.locals,
+            object,
+            label,
+        )
+    })
+}
+
+/// The answer has 16 bits for a place.
+#[cfg(have_probe)]
+fn demand_place(text: &[u8], at: usize) {
+    assert!(text.len() < 1 << 16, "a text of {} bytes", text.len());
+    assert!(at <= text.len(), "{at} is past the end {}", text.len());
+}
+
+impl Reading {
+    /// The reading in an answer that is place + 2^16 * kind + 2^32 * value.
+    pub fn of(answer: u64) -> Reading {
+        let place = usize::from(answer as u16);
+        let kind = (answer >> 16) as u16;
+        let value = (answer >> 32) as u32 as i32;
+        match (kind, value) {
+            (0, value) => Reading::Value { end: place, value },
+            (1, 0) => Reading::OutOfRange { end: place },
+            (2, 0) => Reading::Refused { place },
+            _ => panic!("no answer of a reader: {answer:#x}"),
+        }
+    }
+}
+
+#[cfg(test)]
+mod tests {
+    use super::*;
+
+    #[test]
+    fn an_answer_has_place_kind_and_value() {
+        let value = |end, value| Reading::Value { end, value };
+        assert_eq!(Reading::of(3 + (7 << 32)), value(3, 7));
+        assert_eq!(Reading::of(0xffff_ffff_0000_00c8), value(200, -1));
+        assert_eq!(Reading::of(0x8000_0000_0000_0001), value(1, i32::MIN));
+        let out_of_range = Reading::OutOfRange { end: 5 };
+        assert_eq!(Reading::of(5 + (1 << 16)), out_of_range);
+        let refused = Reading::Refused { place: 0 };
+        assert_eq!(Reading::of(2 << 16), refused);
+    }
+
+    #[test]
+    #[should_panic(expected = "no answer")]
+    fn a_refusal_has_no_value() {
+        Reading::of((2 << 16) + (1 << 32));
+    }
+
+    #[test]
+    #[should_panic(expected = "no answer")]
+    fn there_are_three_kinds() {
+        Reading::of(3 << 16);
+    }
+}
