@@ -1,0 +1,29 @@
+-- `probe::probe_expression` meets its contract. Assumes nothing.
+use borrow.Author.Needs.{needs}
+use denote.Ref.{now}
+use mathlib.Core.Path.{ap, _∙_}
+use Rattle.probe.specs.Packed.{packed}
+use Rattle.terms.specs.Answers.{asValue}
+use Rattle.terms.specs.Expressions.{brackets}
+use Rattle.terms.specs.Readers.{expressionRead}
+use Rattle.probe.proofs.probe_expression.Statement.{statement}
+use Rattle.probe.proofs.probe_expression.Tie as tie
+
+around-requires : tie.Need-around-requires
+around-requires c κs = search needs
+
+expression-requires : tie.Need-expression-requires
+expression-requires c κs = search needs
+
+pack-requires : tie.Need-pack-requires
+pack-requires c κs = search needs
+
+returns : tie.Need-returns
+returns c =
+    let s = c .before .before .before .before in
+    c .pack .ensures
+    ∙ ap packed (c .before .expression .ensures ∙ ap (λ a. asValue (expressionRead (now (s .args .cells)) a (now (s .args .s)) brackets (s .args .at))) (c .before .before .around .ensures))
+
+pub probe-expression-spec : {M : Type 1} → statement M
+probe-expression-spec =
+    tie.close (tie.spec around-requires expression-requires pack-requires returns)

@@ -1,0 +1,2 @@
+-- What was read, as one number.
+pub mod Packed
