@@ -13,13 +13,15 @@ use Rattle.terms.specs.Expressions.{Reading, brackets, expression}
 use Rattle.terms.specs.Guards.{GuardReading, guard}
 use Rattle.terms.specs.declared.Limits.{Limits}
 use Rattle.terms.specs.Leaves.{decimal, variable}
-use Rattle.terms.specs.Parsed.{Parsed, got, bad, next, mapped, word, ended, closed}
+use Rattle.terms.specs.Parsed.{Parsed, got, bad, next, mapped, word, ended, closed, repeated, joining}
 use Rattle.terms.specs.Trees.{trees, guardTrees}
 use Rattle.terms.specs.Values.{Surroundings, values, guardValues, valueOf, guardOf}
-use Rattle.terms.proofs.Following.{mapped-mapped, mapped-twice, mapped-got, mapped-bad, next-same, mapped-next, respects-next, respects-closed, respects-ended, respects-series}
+use Rattle.terms.proofs.Following.{mapped-mapped, mapped-twice, mapped-got, mapped-bad, next-same, mapped-next, respects-next, respects-closed, respects-ended, respects-joining}
 use Rattle.terms.proofs.Respect.{Respects, GuardRespects, respects-expression, respects-guard, fold-respects, foldGuard-respects}
+use Rattle.code.specs.declared.Form.{Form}
+use Rattle.code.specs.declared.Form.the-variants as Form
 use Rattle.code.specs.Statements.{Statement, skip, set, new, call, get, await, if, else, fi, while, od, return, mapStatement}
-use Rattle.code.specs.Reader.{Form, aSkip, aSet, aNew, aCall, aGet, anAwait, anIf, anElse, aFi, aWhile, anOd, aReturn, wordOf, formOf, lastMethod, argumentsAfter, comma, operand, listed, arguments, target, rest, statement}
+use Rattle.code.specs.Reader.{wordOf, formOf, lastMethod, argumentsAfter, comma, operand, listed, arguments, target, rest, statement}
 
 map-append : {A B : Type 0} (h : A → B) (s t : List A) → map h (s ++ t) ≡ map h s ++ map h t
 map-append h [] t = refl
@@ -33,9 +35,10 @@ module _ {A B G H : Type 0} {R : Reading A} {S : Reading B} {Q : GuardReading A 
 
   respects-listed : (more at : ℕ) → mapped (map h) (listed R Q lim classes s more at) ≡ listed S P lim classes s more at
   unfolding listed
-  respects-listed =
-      respects-series (map h) comma _ _ s (λ _. map-append h) _ _
-      (λ p. mapped-twice (map h) _ (λ a. h a ∷ []) (λ a. refl) _ ∙ sym (mapped-mapped (λ b. b ∷ []) h _) ∙ ap (mapped (λ b. b ∷ [])) (respects-operand p))
+  respects-listed more at =
+      respects-next h (map h) (operand R Q lim classes s at) _ (λ p b. repeated (joining comma (λ _ es e. es ++ (e ∷ [])) s (operand S P lim classes s)) more p (b ∷ []))
+      (λ p a. respects-joining (map h) h comma _ (λ _ es e. es ++ (e ∷ [])) s (λ _ es e. map-append h es (e ∷ [])) _ _ respects-operand more p (a ∷ []))
+      ∙ ap (λ q. next q (λ p b. repeated (joining comma (λ _ es e. es ++ (e ∷ [])) s (operand S P lim classes s)) more p (b ∷ []))) (respects-operand at)
 
   respects-arguments : (more at : ℕ) → mapped (map h) (arguments R Q lim classes s more at) ≡ arguments S P lim classes s more at
   unfolding arguments
@@ -60,26 +63,26 @@ module _ {A B G H : Type 0} {R : Reading A} {S : Reading B} {Q : GuardReading A 
 
   respects-rest : (f : Form) (at : ℕ) → mapped (mapStatement h k) (rest R Q lim classes s f at) ≡ rest S P lim classes s f at
   unfolding rest target mapStatement
-  respects-rest aSkip at = mapped-got _ at skip
-  respects-rest aSet at = mapped-next _ _ _ ∙ next-same _ _ _ (λ p x. respects-one (set x) (set x) (λ a. refl) p)
-  respects-rest aNew at =
+  respects-rest Form.Skip at = mapped-got _ at skip
+  respects-rest Form.Set at = mapped-next _ _ _ ∙ next-same _ _ _ (λ p x. respects-one (set x) (set x) (λ a. refl) p)
+  respects-rest Form.New at =
       mapped-next _ _ _ ∙ next-same _ _ _ (λ p x.
       mapped-next _ _ _ ∙ next-same _ _ _ (λ n j. respects-many (new x j) (new x j) (λ es. refl) (length s) n))
-  respects-rest aCall at =
+  respects-rest Form.Call at =
       mapped-next _ _ _ ∙ next-same _ _ _ (λ p x.
       respects-next h _ _ _ (λ n b. next (decimal lastMethod s n) (λ i j. mapped (call x b j) (arguments S P lim classes s argumentsAfter i)))
       (λ n a. mapped-next _ _ _ ∙ next-same _ _ _ (λ i j. respects-many (call x a j) (call x (h a) j) (λ es. refl) argumentsAfter i))
       ∙ ap (λ t. next t (λ n b. next (decimal lastMethod s n) (λ i j. mapped (call x b j) (arguments S P lim classes s argumentsAfter i))))
       (respects-closed h (code " ") s _ ∙ ap (closed (code " ") s) (respects-operand p)))
-  respects-rest aGet at = mapped-next _ _ _ ∙ next-same _ _ _ (λ p x. mapped-twice _ (get x) (get x) (λ y. refl) _)
-  respects-rest anAwait at =
+  respects-rest Form.Get at = mapped-next _ _ _ ∙ next-same _ _ _ (λ p x. mapped-twice _ (get x) (get x) (λ y. refl) _)
+  respects-rest Form.Await at =
       mapped-twice _ await (λ g. await (k g)) (λ g. refl) _ ∙ sym (mapped-mapped await k _) ∙ ap (mapped await) (respects-guard r q lim s brackets at)
-  respects-rest anIf at = respects-one if if (λ a. refl) at
-  respects-rest anElse at = mapped-got _ at else
-  respects-rest aFi at = mapped-got _ at fi
-  respects-rest aWhile at = respects-one while while (λ a. refl) at
-  respects-rest anOd at = mapped-got _ at od
-  respects-rest aReturn at = respects-one return return (λ a. refl) at
+  respects-rest Form.If at = respects-one if if (λ a. refl) at
+  respects-rest Form.Else at = mapped-got _ at else
+  respects-rest Form.Fi at = mapped-got _ at fi
+  respects-rest Form.While at = respects-one while while (λ a. refl) at
+  respects-rest Form.Od at = mapped-got _ at od
+  respects-rest Form.Return at = respects-one return return (λ a. refl) at
 
   -- a whole code value
   pub respects-statement : mapped (mapStatement h k) (statement R Q lim classes s) ≡ statement S P lim classes s

@@ -12,27 +12,25 @@ use Rattle.terms.specs.Expressions.{Reading, brackets, expression}
 use Rattle.terms.specs.Guards.{GuardReading, guard}
 use Rattle.terms.specs.declared.Limits.{Limits}
 use Rattle.terms.specs.Leaves.{decimal, variable}
-use Rattle.terms.specs.Parsed.{Parsed, got, bad, next, mapped, word, ended, closed, series}
+use Rattle.terms.specs.Parsed.{Parsed, got, bad, next, mapped, word, ended, closed, repeated, joining}
+use Rattle.code.specs.declared.Form.{Form}
+use Rattle.code.specs.declared.Form.the-variants as Form
 use Rattle.code.specs.Statements.{Statement, skip, set, new, call, get, await, if, else, fi, while, od, return}
-
--- the twelve forms of a code value
-pub data Form : Type 0 where
-  aSkip aSet aNew aCall aGet anAwait anIf anElse aFi aWhile anOd aReturn : Form
 
 -- the word that a form begins with, with the space that follows it where the form has more
 unfoldable pub wordOf : Form → Text
-wordOf aSkip = bytes "skip"
-wordOf aSet = bytes "set "
-wordOf aNew = bytes "new "
-wordOf aCall = bytes "call "
-wordOf aGet = bytes "get "
-wordOf anAwait = bytes "await "
-wordOf anIf = bytes "if "
-wordOf anElse = bytes "else"
-wordOf aFi = bytes "fi"
-wordOf aWhile = bytes "while "
-wordOf anOd = bytes "od"
-wordOf aReturn = bytes "return "
+wordOf Form.Skip = bytes "skip"
+wordOf Form.Set = bytes "set "
+wordOf Form.New = bytes "new "
+wordOf Form.Call = bytes "call "
+wordOf Form.Get = bytes "get "
+wordOf Form.Await = bytes "await "
+wordOf Form.If = bytes "if "
+wordOf Form.Else = bytes "else"
+wordOf Form.Fi = bytes "fi"
+wordOf Form.While = bytes "while "
+wordOf Form.Od = bytes "od"
+wordOf Form.Return = bytes "return "
 
 -- the form whose word begins with a byte, of those in a list
 unfoldable pub beginning : ℕ → List (ℕ × Form) → Option Form
@@ -42,10 +40,10 @@ beginning b (f ∷ fs) = elim (eqb b (f .0)) [ true ↦ some (f .1) | false ↦ 
 -- the first byte tells the forms apart, and after an `s` the second
 unfoldable pub formOf : Text → Option Form
 formOf s = elim (eqb (byteAt s 0) (code "s")) [
-  | true ↦ elim (eqb (byteAt s 1) (code "k")) [ true ↦ some aSkip | false ↦ some aSet ]
+  | true ↦ elim (eqb (byteAt s 1) (code "k")) [ true ↦ some Form.Skip | false ↦ some Form.Set ]
   | false ↦ beginning (byteAt s 0) (
-      (code "n", aNew) ∷ (code "c", aCall) ∷ (code "g", aGet) ∷ (code "a", anAwait) ∷ (code "i", anIf) ∷ (code "e", anElse)
-      ∷ (code "f", aFi) ∷ (code "w", aWhile) ∷ (code "o", anOd) ∷ (code "r", aReturn) ∷ [])
+      (code "n", Form.New) ∷ (code "c", Form.Call) ∷ (code "g", Form.Get) ∷ (code "a", Form.Await) ∷ (code "i", Form.If) ∷ (code "e", Form.Else)
+      ∷ (code "f", Form.Fi) ∷ (code "w", Form.While) ∷ (code "o", Form.Od) ∷ (code "r", Form.Return) ∷ [])
 ]
 
 -- "J 0..7"
@@ -66,7 +64,7 @@ module _ {A G : Type 0} (R : Reading A) (Q : GuardReading A G) (lim : Limits) (c
 
   -- "E,..", with at most so many after the first
   unfoldable pub listed : ℕ → ℕ → Parsed (List A)
-  listed more at = series comma (λ _. _++_) s (λ p. mapped (λ a. a ∷ []) (operand p)) more at
+  listed more at = next (operand at) (λ p a. repeated (joining comma (λ _ es e. es ++ (e ∷ [])) s operand) more p (a ∷ []))
 
   -- a space and a list, or neither
   unfoldable pub arguments : ℕ → ℕ → Parsed (List A)
@@ -78,21 +76,21 @@ module _ {A G : Type 0} (R : Reading A) (Q : GuardReading A G) (lim : Limits) (c
 
   -- what follows the word of each form, "single spaces as shown"
   unfoldable pub rest : Form → ℕ → Parsed (Statement A G)
-  rest aSkip at = got at skip
-  rest aSet at = next (target at) (λ p x. mapped (set x) (operand p))
-  rest aNew at =
+  rest Form.Skip at = got at skip
+  rest Form.Set at = next (target at) (λ p x. mapped (set x) (operand p))
+  rest Form.New at =
       next (target at) (λ p x. next (decimal (classes - 1) s p) (λ q class. mapped (new x class) (arguments (length s) q)))
-  rest aCall at =
+  rest Form.Call at =
       next (target at) (λ p x. next (closed (code " ") s (operand p)) (λ q callee.
       next (decimal lastMethod s q) (λ r method. mapped (call x callee method) (arguments argumentsAfter r))))
-  rest aGet at = next (target at) (λ p x. mapped (get x) (variable lim s p))
-  rest anAwait at = mapped await (guard R Q lim s brackets at)
-  rest anIf at = mapped if (operand at)
-  rest anElse at = got at else
-  rest aFi at = got at fi
-  rest aWhile at = mapped while (operand at)
-  rest anOd at = got at od
-  rest aReturn at = mapped return (operand at)
+  rest Form.Get at = next (target at) (λ p x. mapped (get x) (variable lim s p))
+  rest Form.Await at = mapped await (guard R Q lim s brackets at)
+  rest Form.If at = mapped if (operand at)
+  rest Form.Else at = got at else
+  rest Form.Fi at = got at fi
+  rest Form.While at = mapped while (operand at)
+  rest Form.Od at = got at od
+  rest Form.Return at = mapped return (operand at)
 
   -- a whole code value
   unfoldable pub statement : Parsed (Statement A G)

@@ -1,1 +1,67 @@
 // Code values: statements, and the partners of the lines that open and close blocks.
+use terms::ReadWord;
+use terms::Variable;
+use whole::Worked;
+
+pub mod statements;
+
+// The twelve forms of a code value.
+pub enum Form {
+    Skip,
+    Set,
+    New,
+    Call,
+    Get,
+    Await,
+    If,
+    Else,
+    Fi,
+    While,
+    Od,
+    Return,
+}
+
+pub enum FormFound {
+    Is(Form),
+    Nothing,
+}
+
+// A statement with its expressions and its guard worked out. The arguments of a `new` and of a `call` stand beside it.
+pub enum Statement {
+    Skip,
+    Set(Variable, Worked),
+    New(Variable, u32),
+    Call(Variable, Worked, u32),
+    Get(Variable, Variable),
+    Await(Worked),
+    If(Worked),
+    Else,
+    Fi,
+    While(Worked),
+    Od,
+    Return(Worked),
+}
+
+// Arguments worked out: how many there are, whether each is a value, and the first eight of them (0 for one that is none).
+pub struct Arguments {
+    pub count: usize,
+    pub fit: bool,
+    pub values: [i32; 8],
+}
+
+// Where a list of arguments ended, or the place of its refusal.
+pub struct ReadList {
+    pub end: ReadWord,
+    pub arguments: Arguments,
+}
+
+// A code value that was read, or the place of its refusal.
+pub enum ReadStatement {
+    Got(Statement),
+    Bad(usize),
+}
+
+pub struct ReadCode {
+    pub read: ReadStatement,
+    pub arguments: Arguments,
+}

@@ -82,7 +82,7 @@ module _ {A : Type 0} (step : ℕ → A → Option (Parsed A)) (more at : ℕ) (
   repeated-some p e = rw (e, repeated)
 
 -- items joined by operators: no operator stands at the place, or one does, and the items are "grouped from the left"
-module _ {O A : Type 0} (operator : ℕ → Option O) (apply : O → A → A → A) (s : Text) (item : ℕ → Parsed A) (at : ℕ) (a : A) where
+module _ {O A B : Type 0} (operator : ℕ → Option O) (apply : O → B → A → B) (s : Text) (item : ℕ → Parsed A) (at : ℕ) (a : B) where
   pub joining-none : operator (byteAt s at) ≡ none → joining operator apply s item at a ≡ none
   unfolding joining
   joining-none e = rw (e, joining)
@@ -106,31 +106,40 @@ module _ {A B : Type 0} (h : A → B) (step : ℕ → A → Option (Parsed A)) (
           rw (repeated-some step more at a p e, repeated-some step′ more at (h a) (mapped h p) (goes at a p e))
           (respects-next h h p _ _ rest)
 
-module _ {O A B : Type 0} (h : A → B) (operator : ℕ → Option O) (f : O → A → A → A) (g : O → B → B → B) (s : Text)
-    (respects : (o : O) (a b : A) → h (f o a b) ≡ g o (h a) (h b))
-    (item : ℕ → Parsed A) (item′ : ℕ → Parsed B) (items : (at : ℕ) → mapped h (item at) ≡ item′ at) where
-  -- a map that respects the operators, past one item more
-  stops-alike : (at : ℕ) (a : A) → joining operator f s item at a ≡ none → joining operator g s item′ at (h a) ≡ none
-  stops-alike at a e = go (operator (byteAt s at)) refl
+-- a map that respects the operators, past one item more: h maps what is read so far, and i the item
+module _ {O A A′ B B′ : Type 0} (h : B → B′) (i : A → A′) (operator : ℕ → Option O) (f : O → B → A → B) (g : O → B′ → A′ → B′) (s : Text)
+    (respects : (o : O) (b : B) (a : A) → h (f o b a) ≡ g o (h b) (i a))
+    (item : ℕ → Parsed A) (item′ : ℕ → Parsed A′) (items : (at : ℕ) → mapped i (item at) ≡ item′ at) where
+  stops-alike : (at : ℕ) (b : B) → joining operator f s item at b ≡ none → joining operator g s item′ at (h b) ≡ none
+  stops-alike at b e = go (operator (byteAt s at)) refl
     where
-      go : (o : Option O) → operator (byteAt s at) ≡ o → joining operator g s item′ at (h a) ≡ none
-      go none n = joining-none operator g s item′ at (h a) n
-      go (some o) n = let c = joining-some operator f s item at a o n in cc
+      go : (o : Option O) → operator (byteAt s at) ≡ o → joining operator g s item′ at (h b) ≡ none
+      go none n = joining-none operator g s item′ at (h b) n
+      go (some o) n = let c = joining-some operator f s item at b o n in cc
 
-  goes-alike : (at : ℕ) (a : A) (p : Parsed A) → joining operator f s item at a ≡ some p → joining operator g s item′ at (h a) ≡ some (mapped h p)
-  goes-alike at a p e = go (operator (byteAt s at)) refl
+  goes-alike : (at : ℕ) (b : B) (p : Parsed B) → joining operator f s item at b ≡ some p → joining operator g s item′ at (h b) ≡ some (mapped h p)
+  goes-alike at b p e = go (operator (byteAt s at)) refl
     where
-      go : (o : Option O) → operator (byteAt s at) ≡ o → joining operator g s item′ at (h a) ≡ some (mapped h p)
-      go none n = let c = joining-none operator f s item at a n in cc
+      go : (o : Option O) → operator (byteAt s at) ≡ o → joining operator g s item′ at (h b) ≡ some (mapped h p)
+      go none n = let c = joining-none operator f s item at b n in cc
       go (some o) n =
-          let c = joining-some operator f s item at a o n in
-          let q : mapped (f o a) (item (at + 1)) ≡ p = cc in
-          joining-some operator g s item′ at (h a) o n
-          ∙ ap (λ i. some (mapped (g o (h a)) i)) (sym (items (at + 1)))
-          ∙ ap some (mapped-mapped (g o (h a)) h (item (at + 1)) ∙ sym (mapped-twice h (f o a) (λ b. g o (h a) (h b)) (respects o a) (item (at + 1))) ∙ ap (mapped h) q)
+          let c = joining-some operator f s item at b o n in
+          let q : mapped (f o b) (item (at + 1)) ≡ p = cc in
+          joining-some operator g s item′ at (h b) o n
+          ∙ ap (λ j. some (mapped (g o (h b)) j)) (sym (items (at + 1)))
+          ∙ ap some
+          (mapped-mapped (g o (h b)) i (item (at + 1))
+          ∙ sym (mapped-twice h (f o b) (λ a. g o (h b) (i a)) (respects o b) (item (at + 1)))
+          ∙ ap (mapped h) q)
 
-  pub respects-series : (more at : ℕ) → mapped h (series operator f s item more at) ≡ series operator g s item′ more at
-  unfolding series
-  respects-series more at =
-      respects-next h h (item at) _ _ (respects-repeated h _ _ stops-alike goes-alike more)
-      ∙ ap (λ q. next q (repeated (joining operator g s item′) more)) (items at)
+  pub respects-joining : (more at : ℕ) (b : B) → mapped h (repeated (joining operator f s item) more at b) ≡ repeated (joining operator g s item′) more at (h b)
+  respects-joining = respects-repeated h _ _ stops-alike goes-alike
+
+pub respects-series : {O A B : Type 0} (h : A → B) (operator : ℕ → Option O) (f : O → A → A → A) (g : O → B → B → B) (s : Text)
+    → ((o : O) (a b : A) → h (f o a b) ≡ g o (h a) (h b))
+    → (item : ℕ → Parsed A) (item′ : ℕ → Parsed B) → ((at : ℕ) → mapped h (item at) ≡ item′ at)
+    → (more at : ℕ) → mapped h (series operator f s item more at) ≡ series operator g s item′ more at
+unfolding series
+respects-series h operator f g s respects item item′ items more at =
+    respects-next h h (item at) _ _ (respects-joining h h operator f g s respects item item′ items more)
+    ∙ ap (λ q. next q (repeated (joining operator g s item′) more)) (items at)

@@ -174,9 +174,9 @@ pub repeated-stops : {A : Type 0} (step : ℕ → A → Option (Parsed A)) (more
 repeated-stops step zero at a e = unfold repeated in refl
 repeated-stops step (suc more) at a e = repeated-none step more at a e
 
-module _ {O A : Type 0} (operator : ℕ → Option O) (apply : O → A → A → A) (s : Text) (item : ℕ → Parsed A) (m : Moves item) where
+module _ {O A B : Type 0} (operator : ℕ → Option O) (apply : O → B → A → B) (s : Text) (item : ℕ → Parsed A) (m : Moves item) where
   -- one item more moves on
-  pub joining-moves : (at p : ℕ) (a b : A) → joining operator apply s item at a ≡ some (got p b) → at < p
+  pub joining-moves : (at p : ℕ) (a b : B) → joining operator apply s item at a ≡ some (got p b) → at < p
   joining-moves at p a b e = go (operator (byteAt s at)) refl
     where
       go : (o : Option O) → operator (byteAt s at) ≡ o → at < p
@@ -189,13 +189,14 @@ module _ {O A : Type 0} (operator : ℕ → Option O) (apply : O → A → A →
           omega arith
 
   -- and stops at the end, where 0 is no operator
-  pub joining-stops : operator 0 ≡ none → (at : ℕ) (a : A) → length s ≤ at → joining operator apply s item at a ≡ none
+  pub joining-stops : operator 0 ≡ none → (at : ℕ) (a : B) → length s ≤ at → joining operator apply s item at a ≡ none
   joining-stops z at a h = joining-none operator apply s item at a (ap operator (past-end s at h) ∙ z)
 
-  pub moves-series : (more : ℕ) → Moves (series operator apply s item more)
-  unfolding series
-  moves-series more at p a e =
-      let q = next-got (item at) _ p a e in
-      let f = m at (q .0) (q .1) (q .2) in
-      let g = repeated-on (joining operator apply s item) joining-moves more (q .0) p (q .1) a (q .3) in
-      omega arith
+pub moves-series : {O A : Type 0} (operator : ℕ → Option O) (apply : O → A → A → A) (s : Text) (item : ℕ → Parsed A) → Moves item
+    → (more : ℕ) → Moves (series operator apply s item more)
+unfolding series
+moves-series operator apply s item m more at p a e =
+    let q = next-got (item at) _ p a e in
+    let f = m at (q .0) (q .1) (q .2) in
+    let g = repeated-on (joining operator apply s item) (joining-moves operator apply s item m) more (q .0) p (q .1) a (q .3) in
+    omega arith

@@ -20,18 +20,18 @@ operator-within operator z s at o e = go (ltb at (length s)) refl
     go true f = ltb-true at (length s) f
     go false f = let n : operator (byteAt s at) ≡ operator 0 = ap operator (past-end s at (ltb-false at (length s) f)) in absurd (let z : _≡_ {A = ℕ} 0 1 = cc in omega arith)
 
-module _ {O A : Type 0} (operator : ℕ → Option O) (apply : O → A → A → A) (s : Text) (item : ℕ → Parsed A) where
-  -- the first item
-  module _ (more at p : ℕ) where
-    pub series-go : (a : A) → item at ≡ got p a → series operator apply s item more at ≡ repeated (joining operator apply s item) more p a
-    unfolding series
-    series-go a e = ap (λ q. next q (repeated (joining operator apply s item) more)) e ∙ next-of-got p a _
+-- the first item
+module _ {O A : Type 0} (operator : ℕ → Option O) (apply : O → A → A → A) (s : Text) (item : ℕ → Parsed A) (more at p : ℕ) where
+  pub series-go : (a : A) → item at ≡ got p a → series operator apply s item more at ≡ repeated (joining operator apply s item) more p a
+  unfolding series
+  series-go a e = ap (λ q. next q (repeated (joining operator apply s item) more)) e ∙ next-of-got p a _
 
-    pub series-fail : item at ≡ bad p → series operator apply s item more at ≡ bad p
-    unfolding series
-    series-fail e = ap (λ q. next q (repeated (joining operator apply s item) more)) e ∙ next-of-bad p _
+  pub series-fail : item at ≡ bad p → series operator apply s item more at ≡ bad p
+  unfolding series
+  series-fail e = ap (λ q. next q (repeated (joining operator apply s item) more)) e ∙ next-of-bad p _
 
-  module _ (at : ℕ) (a : A) where
+module _ {O A B : Type 0} (operator : ℕ → Option O) (apply : O → B → A → B) (s : Text) (item : ℕ → Parsed A) where
+  module _ (at : ℕ) (a : B) where
     -- no operator
     pub joined-stop : (more : ℕ) → operator (byteAt s at) ≡ none → repeated (joining operator apply s item) more at a ≡ got at a
     joined-stop more e = repeated-stops (joining operator apply s item) more at a (joining-none operator apply s item at a e)
@@ -44,12 +44,20 @@ module _ {O A : Type 0} (operator : ℕ → Option O) (apply : O → A → A →
       step-bad : item (at + 1) ≡ bad p → joining operator apply s item at a ≡ some (bad p)
       step-bad f = joining-some operator apply s item at a o e ∙ ap (λ q. some (mapped (apply o a) q)) f ∙ ap some (mapped-bad (apply o a) p)
 
+      -- at most so many more
+      pub counted-go : (more : ℕ) (b : A) → item (at + 1) ≡ got p b
+          → repeated (joining operator apply s item) (suc more) at a ≡ repeated (joining operator apply s item) more p (apply o a b)
+      counted-go more b f = repeated-some (joining operator apply s item) more at a _ (step-got b f) ∙ next-of-got p _ _
+
+      pub counted-fail : (more : ℕ) → item (at + 1) ≡ bad p → repeated (joining operator apply s item) (suc more) at a ≡ bad p
+      counted-fail more f = repeated-some (joining operator apply s item) more at a _ (step-bad f) ∙ next-of-bad p _
+
       -- at most one more
       pub once-go : (b : A) → item (at + 1) ≡ got p b → repeated (joining operator apply s item) 1 at a ≡ got p (apply o a b)
-      once-go b f = repeated-some (joining operator apply s item) 0 at a _ (step-got b f) ∙ next-of-got p _ _ ∙ (unfold repeated in refl)
+      once-go b f = counted-go 0 b f ∙ (unfold repeated in refl)
 
       pub once-fail : item (at + 1) ≡ bad p → repeated (joining operator apply s item) 1 at a ≡ bad p
-      once-fail f = repeated-some (joining operator apply s item) 0 at a _ (step-bad f) ∙ next-of-bad p _
+      once-fail f = counted-fail 0 f
 
       -- as many as there are
       module _ (m : Moves item) (z : operator 0 ≡ none) (h : at < length s) where

@@ -48,10 +48,10 @@ repeated step zero at a = got at a
 repeated step (suc more) at a = elim (step at a) [ none ↦ got at a | some p ↦ next p (repeated step more) ]
 
 -- one item more, behind a byte that is an operator, "grouped from the left"
-unfoldable pub joining : {O A : Type 0} → (ℕ → Option O) → (O → A → A → A) → Text → (ℕ → Parsed A) → ℕ → A → Option (Parsed A)
-joining operator apply s item at a = elim (operator (byteAt s at)) [
+unfoldable pub joining : {O A B : Type 0} → (ℕ → Option O) → (O → B → A → B) → Text → (ℕ → Parsed A) → ℕ → B → Option (Parsed B)
+joining operator apply s item at b = elim (operator (byteAt s at)) [
   | none ↦ none
-  | some o ↦ some (mapped (apply o a) (item (at + 1)))
+  | some o ↦ some (mapped (apply o b) (item (at + 1)))
 ]
 
 -- items joined by operators, with at most so many after the first

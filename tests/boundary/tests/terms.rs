@@ -236,7 +236,7 @@ impl Tally {
     }
 }
 
-/// Any number from the grammar's and from other bytes.
+/// A byte, mostly one of the grammar's.
 fn byte(random: &mut Random) -> u8 {
     match random.percent(80) {
         true => *random.pick(b"0123456789av()[]&|?<=+-*, selfcallerwait"),
@@ -245,20 +245,23 @@ fn byte(random: &mut Random) -> u8 {
 }
 
 /// Operands of any kind joined without brackets, so that rank and grouping show.
-fn flat(random: &mut Random, kind: Kind, limits: Limits) -> Vec<u8> {
+fn flat(random: &mut Random, kind: Kind, limits: Limits, most: usize) -> Vec<u8> {
     let mut term = Vec::new();
-    let most = random.between(2, 30);
-    for index in 0..most {
+    for index in 0..random.between(2, most) {
         if index > 0 {
-            let joins = kind.joins();
-            term.push(match (kind, random.below(12)) {
+            term.push(match (kind, random.below(24)) {
                 (Kind::Expression, 0) => *random.pick(b"<="),
-                (Kind::Expression, 1..=5) => b'*',
-                _ => *random.pick(joins),
+                (Kind::Expression, 1..=10) => b'*',
+                _ => *random.pick(kind.joins()),
             });
         }
-        match (kind, random.below(6)) {
+        match (kind, random.below(5)) {
             (Kind::Expression, 0) => term.extend(random.below(100).to_string().into_bytes()),
+            (Kind::Guard, 0) => {
+                term.push(b'[');
+                term.extend(flat(random, Kind::Expression, limits, 5));
+                term.push(b']');
+            }
             _ => term.extend(kind.generated(random, limits, 5)),
         }
     }
@@ -375,7 +378,7 @@ fn rest(random: &mut Random, kind: Kind, limits: Limits) -> Vec<u8> {
             let bytes = *random.pick(&[12, 40, LINE_BYTES]);
             kind.generated(random, limits, bytes)
         }
-        1 => flat(random, kind, limits),
+        1 => flat(random, kind, limits, 16),
         2 => tower(random, kind, limits),
         3 => edge(random, kind),
         _ => generate::noise(random, 40),
@@ -491,7 +494,10 @@ fn every_short_text() {
             tally.compare(Kind::Guard, &case);
         }
     }
-    assert!(tally.values >= 10_000 && tally.refused >= 50_000, "{tally:?}");
+    assert!(
+        tally.values >= 10_000 && tally.refused >= 50_000,
+        "{tally:?}"
+    );
 }
 
 /// Every byte that can follow a term, or stand where an operand is due.
@@ -518,7 +524,10 @@ fn every_next_byte() {
             }
         }
     }
-    assert!(tally.values >= 10_000 && tally.refused >= 10_000, "{tally:?}");
+    assert!(
+        tally.values >= 10_000 && tally.refused >= 10_000,
+        "{tally:?}"
+    );
 }
 
 /// Cells that are missing read as 0, and so do all where none are lent.

@@ -103,7 +103,10 @@ impl Lent {
             true => random.between(1, likely),
             false => random.between(1, rows),
         };
-        (row(objects, OBJECT_ROWS) as u8, row(calls, CALL_ROWS) as u32)
+        (
+            row(objects, OBJECT_ROWS) as u8,
+            row(calls, CALL_ROWS) as u32,
+        )
     }
 }
 
@@ -148,7 +151,9 @@ fn label_or_value(random: &mut Random, calls: usize) -> i32 {
 /// No rows, but cells that often look like some: labels just in use and just not,
 /// stages about 6, callers that are an object that asks.
 fn small_garbage(random: &mut Random) -> Vec<i32> {
-    let mut cells: Vec<i32> = (0..CELLS).map(|_| random.between(0, 9) as i32 - 1).collect();
+    let mut cells: Vec<i32> = (0..CELLS)
+        .map(|_| random.between(0, 9) as i32 - 1)
+        .collect();
     let most = *random.pick(&[8, 12, 128, 129, 200, 100_000]);
     cells[0] = value(random);
     cells[1] = match random.percent(80) {
