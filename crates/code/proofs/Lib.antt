@@ -1,4 +1,6 @@
 -- The laws of the grammar of code values, and what the proofs above cite.
 mod Cases
+pub mod Forms
+pub mod Gathering
 pub mod Open
 pub mod Respect

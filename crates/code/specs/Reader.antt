@@ -37,13 +37,17 @@ unfoldable pub beginning : ℕ → List (ℕ × Form) → Option Form
 beginning b [] = none
 beginning b (f ∷ fs) = elim (eqb b (f .0)) [ true ↦ some (f .1) | false ↦ beginning b fs ]
 
+-- the forms that begin with a byte other than `s`
+abbrev pub initials : List (ℕ × Form)
+initials =
+    (code "n", Form.New) ∷ (code "c", Form.Call) ∷ (code "g", Form.Get) ∷ (code "a", Form.Await) ∷ (code "i", Form.If) ∷ (code "e", Form.Else)
+    ∷ (code "f", Form.Fi) ∷ (code "w", Form.While) ∷ (code "o", Form.Od) ∷ (code "r", Form.Return) ∷ []
+
 -- the first byte tells the forms apart, and after an `s` the second
 unfoldable pub formOf : Text → Option Form
 formOf s = elim (eqb (byteAt s 0) (code "s")) [
   | true ↦ elim (eqb (byteAt s 1) (code "k")) [ true ↦ some Form.Skip | false ↦ some Form.Set ]
-  | false ↦ beginning (byteAt s 0) (
-      (code "n", Form.New) ∷ (code "c", Form.Call) ∷ (code "g", Form.Get) ∷ (code "a", Form.Await) ∷ (code "i", Form.If) ∷ (code "e", Form.Else)
-      ∷ (code "f", Form.Fi) ∷ (code "w", Form.While) ∷ (code "o", Form.Od) ∷ (code "r", Form.Return) ∷ [])
+  | false ↦ beginning (byteAt s 0) initials
 ]
 
 -- "J 0..7"

@@ -1,1 +1,205 @@
-// The statement reader.
+// The statement reader: a code value to a statement whose values are worked out while it is read.
+use crate::Arguments;
+use crate::Form;
+use crate::FormFound;
+use crate::ReadCode;
+use crate::ReadList;
+use crate::ReadStatement;
+use crate::Statement;
+use terms::Around;
+use terms::Limits;
+use terms::ReadNumber;
+use terms::ReadValue;
+use terms::ReadVariable;
+use terms::ReadWord;
+use terms::Variable;
+use terms::expressions;
+use terms::guards;
+use terms::leaves;
+use whole::Worked;
+ghost use mathlib.Core.Path.{_≡_};
+ghost use Prim.Native.Nat.{_+_, _-_, _≤_, _<_, _^_};
+ghost use lib.ListN.{length, set};
+ghost use Rattle.terms.specs.Answers.{asVariable, asWord};
+ghost use Rattle.terms.specs.Leaves as Leaves;
+ghost use Rattle.terms.specs.Parsed.{word, closed};
+ghost use Rattle.code.specs.Answers as Answers;
+ghost use Rattle.code.specs.Reader as Reader;
+ghost use Rattle.code.specs.Readers as Readers;
+
+// "J 0..7"
+const LAST_METHOD: u32 = 7;
+
+// "0 to 4 arguments": a first, and at most three after it.
+const ARGUMENTS_AFTER: usize = 3;
+
+fn no_arguments() -> Arguments
+    ensures { λ r. ⌜ r ≡ Answers.noArguments ⌝ }
+{
+    Arguments {
+        count: 0,
+        fit: true,
+        values: [0; 8],
+    }
+}
+
+// A value among the first eight; past them it is not kept.
+fn kept(values: [i32; 8], at: usize, z: i32) -> [i32; 8]
+    ensures { λ r. ⌜ r ≡ set values at z ⌝ }
+{
+    let mut longer = values;
+    if at < 8 {
+        longer[at] = z;
+        return longer;
+    }
+    longer
+}
+
+// One argument more; past the eighth only the count goes on.
+fn with_one(a: Arguments, w: Worked) -> Arguments
+    requires { ⌜ a .count + 1 < 2 ^ 64 ⌝ }
+    ensures { λ r. ⌜ r ≡ Answers.withOne a w ⌝ }
+{
+    let at = a.count;
+    let values = a.values;
+    match w {
+        Worked::OutOfRange => Arguments {
+            count: at + 1,
+            fit: false,
+            values,
+        },
+        Worked::Value(z) => {
+            let longer = kept(values, at, z);
+            Arguments {
+                count: at + 1,
+                fit: a.fit,
+                values: longer,
+            }
+        }
+    }
+}
+
+// A refusal at a place.
+fn refused(at: usize) -> ReadCode
+    ensures { λ r. ⌜ r ≡ Answers.refusedAt at ⌝ }
+{
+    ReadCode {
+        read: ReadStatement::Bad(at),
+        arguments: no_arguments(),
+    }
+}
+
+// A statement that was read up to a place, which must be the end of the value.
+fn finished(s: &[u8], at: usize, statement: Statement, arguments: Arguments) -> ReadCode
+    ensures { λ r. ⌜ r ≡ Answers.finished (now (s .entry)) at statement arguments ⌝ }
+{
+    if at == s.len() {
+        return ReadCode {
+            read: ReadStatement::Got(statement),
+            arguments,
+        };
+    }
+    refused(at)
+}
+
+// The forms that begin with a byte other than `s`: each has a first byte of its own.
+fn form_by(b: u8) -> FormFound
+    ensures { λ r. ⌜ r ≡ Answers.asForm (Reader.beginning b Reader.initials) ⌝ }
+{
+    match b {
+        b'n' => FormFound::Is(Form::New),
+        b'c' => FormFound::Is(Form::Call),
+        b'g' => FormFound::Is(Form::Get),
+        b'a' => FormFound::Is(Form::Await),
+        b'i' => FormFound::Is(Form::If),
+        b'e' => FormFound::Is(Form::Else),
+        b'f' => FormFound::Is(Form::Fi),
+        b'w' => FormFound::Is(Form::While),
+        b'o' => FormFound::Is(Form::Od),
+        b'r' => FormFound::Is(Form::Return),
+        _ => FormFound::Nothing,
+    }
+}
+
+// The first byte tells the forms apart, and after an `s` the second.
+fn form_of(s: &[u8]) -> FormFound
+    ensures { λ r. ⌜ r ≡ Answers.asForm (Reader.formOf (now (s .entry))) ⌝ }
+{
+    let b = leaves::byte_at(s, 0);
+    if b != b's' {
+        return form_by(b);
+    }
+    if leaves::byte_at(s, 1) == b'k' {
+        return FormFound::Is(Form::Skip);
+    }
+    FormFound::Is(Form::Set)
+}
+
+// The word that a form begins with.
+fn word_of(form: Form, s: &[u8]) -> ReadWord
+    ensures { λ r. ⌜ r ≡ asWord (word (Reader.wordOf form) (now (s .entry)) 0) ⌝ }
+{
+    match form {
+        Form::Skip => leaves::word(b"skip", s, 0),
+        Form::Set => leaves::word(b"set ", s, 0),
+        Form::New => leaves::word(b"new ", s, 0),
+        Form::Call => leaves::word(b"call ", s, 0),
+        Form::Get => leaves::word(b"get ", s, 0),
+        Form::Await => leaves::word(b"await ", s, 0),
+        Form::If => leaves::word(b"if ", s, 0),
+        Form::Else => leaves::word(b"else", s, 0),
+        Form::Fi => leaves::word(b"fi", s, 0),
+        Form::While => leaves::word(b"while ", s, 0),
+        Form::Od => leaves::word(b"od", s, 0),
+        Form::Return => leaves::word(b"return ", s, 0),
+    }
+}
+
+// A variable and a space.
+fn target(limits: Limits, s: &[u8], at: usize) -> ReadVariable
+    ensures { λ r. ⌜ r ≡ asVariable (closed 32 (now (s .entry)) (Leaves.variable limits (now (s .entry)) at)) ⌝ }
+{
+    match leaves::variable(limits, s, at) {
+        ReadVariable::Bad(p) => ReadVariable::Bad(p),
+        ReadVariable::Got(p, x) => {
+            if leaves::byte_at(s, p) == b' ' {
+                ReadVariable::Got(p + 1, x)
+            } else {
+                ReadVariable::Bad(p)
+            }
+        }
+    }
+}
+
+// The arguments after some, at most so many.
+fn gathered(
+    s: &[u8],
+    at: usize,
+    more: usize,
+    a: Arguments,
+    cells: &[i32],
+    around: Around,
+) -> ReadList
+    requires { ⌜ a .count + more + 1 < 2 ^ 64 ⌝ }
+    ensures { λ r. ⌜ r ≡ Answers.asList (Readers.gatheredRead (now (cells .entry)) around 0 (now (s .entry)) more at a) ⌝ }
+{
+    if more == 0 {
+        return ReadList {
+            end: ReadWord::Got(at),
+            arguments: a,
+        };
+    }
+    if leaves::byte_at(s, at) != b',' {
+        return ReadList {
+            end: ReadWord::Got(at),
+            arguments: a,
+        };
+    }
+    match expressions::expression(s, at + 1, cells, around, expressions::BRACKETS) {
+        ReadValue::Bad(p) => ReadList {
+            end: ReadWord::Bad(p),
+            arguments: no_arguments(),
+        },
+        ReadValue::Got(p, w) => gathered(s, p, more - 1, with_one(a, w), cells, around),
+    }
+}

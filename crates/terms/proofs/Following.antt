@@ -19,6 +19,11 @@ unfolding mapped
 mapped-twice h k l e (got at a) = ap (got at) (e a)
 mapped-twice h k l e (bad at) = refl
 
+pub mapped-id : {A : Type 0} (p : Parsed A) → mapped (λ a. a) p ≡ p
+unfolding mapped
+mapped-id (got at a) = refl
+mapped-id (bad at) = refl
+
 pub mapped-bad : {A B : Type 0} (h : A → B) (at : ℕ) → mapped h (bad at) ≡ bad at
 unfolding mapped
 mapped-bad h at = refl

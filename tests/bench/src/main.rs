@@ -29,14 +29,10 @@ fn main() {
         let expected = independent::judge(&text);
         assert_eq!(proved(&text), expected, "{name}");
         assert!(expected.is_accepted(), "{name}: {expected:?}");
-        let medians = compared(&text, proved, independent::judge);
-        println!(
-            "{name:<24} {:>8} {:>12.0} {:>15.0} {:>7.2}",
-            text.len(),
-            medians.proved,
-            medians.independent,
-            medians.ratio,
-        );
+        let (proved, independent) = compared(&text, proved, independent::judge);
+        let ratio = independent / proved;
+        let bytes = text.len();
+        println!("{name:<24} {bytes:>8} {proved:>12.0} {independent:>15.0} {ratio:>7.2}");
     }
 }
 
@@ -104,34 +100,21 @@ fn dense_text() -> Vec<u8> {
     text.into_bytes()
 }
 
-/// Medians over the rounds: the nanoseconds of a call, and the independent engine's
-/// by the library's.
-struct Medians {
-    proved: f64,
-    independent: f64,
-    ratio: f64,
-}
-
-fn compared(text: &[u8], proved: Judge, independent: Judge) -> Medians {
-    let judges = [proved, independent];
+/// The nanoseconds of a call, of each of the two: medians over the rounds.
+fn compared(text: &[u8], first: Judge, second: Judge) -> (f64, f64) {
+    let judges = [first, second];
     let calls = judges.map(|judge| calls_in_a_turn(text, judge));
-    let mut rounds = Vec::new();
+    let mut times = [Vec::new(), Vec::new()];
     for round in 0..ROUNDS {
-        let mut times = [0.0; 2];
         // Each goes first in every other round.
         for turn in 0..2 {
             let which = (round + turn) % 2;
             let time = timed(text, judges[which], calls[which]);
-            times[which] = time.as_nanos() as f64 / f64::from(calls[which]);
+            times[which].push(time.as_nanos() as f64 / f64::from(calls[which]));
         }
-        rounds.push(times);
     }
-    let over = |of: fn(&[f64; 2]) -> f64| median(rounds.iter().map(of).collect());
-    Medians {
-        proved: over(|times| times[0]),
-        independent: over(|times| times[1]),
-        ratio: over(|times| times[1] / times[0]),
-    }
+    let [first, second] = times.map(median);
+    (first, second)
 }
 
 fn calls_in_a_turn(text: &[u8], judge: Judge) -> u32 {

@@ -137,6 +137,7 @@ fn good_and_damaged_texts() {
 fn the_session_cut_anywhere() {
     let mut tally = Tally::default();
     let session = MODEL.as_bytes();
+    assert_eq!(tally.compare(session), Verdict::ACCEPTED);
     for end in 0..=session.len() {
         tally.compare(&session[..end]);
         tally.compare(&session[end..]);
@@ -342,6 +343,79 @@ fn sums_of_lines() {
     tally.demand(&[0, 3, 4], 50);
 }
 
+/// A text of so many classes, with so many methods each, and so many lines in each
+/// of these. Class k is created with k % 3 arguments. The lines but the last are as
+/// told by their number among all.
+fn full_text(
+    [classes, methods, lines]: [usize; 3],
+    mut statement: impl FnMut(usize) -> String,
+) -> Vec<u8> {
+    let mut number = 0;
+    let mut text = format!("creol=1\nclasses={classes}\n");
+    for class in 0..classes {
+        let (given, run) = (class % 3, usize::from(class % 2 == 0));
+        text += &format!("class={class}\nattrs=8\ngiven={given}\nrun={run}\n");
+        text += &format!("methods={methods}\n");
+        for method in 0..methods {
+            text += &format!("method={method}\nparams=0\nlocals=1\nlines={lines}\n");
+            for _ in 1..lines {
+                text += &format!("code={}\n", statement(number));
+                number += 1;
+            }
+            text += "code=return 0\n";
+        }
+    }
+    text.into_bytes()
+}
+
+/// As many classes, methods and lines as there may be, and one more; and as many
+/// creations, all fitting but perhaps one.
+#[test]
+fn fullest_texts() {
+    let mut tally = Tally::default();
+    for counts in [
+        [16, 8, 4],
+        [16, 8, 5],
+        [16, 8, 1],
+        [17, 8, 1],
+        [16, 9, 1],
+        [16, 9, 3],
+        [1, 8, 64],
+        [1, 8, 65],
+        [2, 4, 64],
+        [8, 1, 64],
+        [9, 1, 64],
+        [16, 1, 32],
+        [16, 1, 33],
+        [16, 0, 1],
+        [1, 1, 1],
+        [1, 0, 1],
+    ] {
+        let [classes, methods, lines] = counts;
+        let are_in_range = classes <= 16 && (1..=8).contains(&methods) && lines <= 64;
+        let is_good = are_in_range && classes * methods * lines <= 512;
+        let text = full_text(counts, |_| "skip".to_string());
+        assert_eq!(tally.compare(&text).is_accepted(), is_good, "{counts:?}");
+        let mut random = Random::new(8_000_000);
+        for _ in 0..100 {
+            tally.compare(&generate::damaged_text(&mut random, &text));
+        }
+        let created = (lines - 1) * classes * methods;
+        for misfit in (0..=created).step_by(1 + created / 40) {
+            let text = full_text(counts, |number| {
+                let class = random.below(classes);
+                let count = class % 3 + usize::from(number == misfit);
+                let arguments = ["", " 1", " 1,2", " 1,2,3"][count];
+                format!("new v0 {class}{arguments}")
+            });
+            let verdict = tally.compare(&text);
+            let is_fitting = misfit == created;
+            assert_eq!(verdict.is_accepted(), is_good && is_fitting, "{counts:?}");
+        }
+    }
+    tally.demand(&[0, 3, 4, 5], 10);
+}
+
 /// Lines of 118 to 123 bytes anywhere, good but for their length, with any byte at
 /// their end, and with no LF.
 #[test]
@@ -483,7 +557,7 @@ fn blocks() {
 /// Statements of every form, and each with every byte of a line anywhere.
 #[test]
 fn statements() {
-    const VALUES: [&str; 40] = [
+    const VALUES: [&str; 48] = [
         "skip",
         "set a0 1",
         "set v7 a7*(v0-1)<self+caller",
@@ -524,6 +598,14 @@ fn statements() {
         "od",
         "call a0 1 0 ((((((((1)))))))),((((((((1))))))))",
         "return self",
+        "new a0 256",
+        "new a0 65536",
+        "new a0 4294967296",
+        "new a0 00",
+        "call a0 1 256",
+        "call a0 1 4294967297",
+        "call a0 1 01",
+        "await [((((((((1))))))))]",
     ];
     let mut tally = Tally::default();
     for value in VALUES {

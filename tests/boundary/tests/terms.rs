@@ -448,6 +448,7 @@ fn random_terms(kind: Kind, seed: u64) {
     assert!(tally.values - tally.zeros >= 5_000, "{tally:?}");
     assert!(tally.stopped >= 5_000, "{tally:?}");
     assert!(tally.in_rows >= 10_000, "{tally:?}");
+    assert!(tally.values - tally.in_rows >= 10_000, "{tally:?}");
 }
 
 #[test]
@@ -467,14 +468,14 @@ fn every_short_text() {
     let mut random = Random::new(3);
     let pool = pool(&mut random);
     let mut tally = Tally::default();
-    let mut memory = vec![Vec::new()];
+    let mut texts = vec![Vec::new()];
     for _ in 0..4 {
         let longer = |text: &Vec<u8>| {
             let text = text.clone();
             BYTES.iter().map(move |byte| [&text[..], &[*byte]].concat())
         };
-        memory = memory.iter().flat_map(longer).collect();
-        for text in &memory {
+        texts = texts.iter().flat_map(longer).collect();
+        for text in &texts {
             let lent = random.pick(&pool);
             let (object, label) = lent.place(&mut random);
             let limits = Limits {

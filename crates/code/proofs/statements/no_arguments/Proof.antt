@@ -1,0 +1,12 @@
+-- `code::statements::no_arguments` meets its contract. Assumes nothing.
+use mathlib.Core.Path.{refl}
+use Rattle.code.specs.Answers.{noArguments}
+use Rattle.code.proofs.statements.no_arguments.Statement.{statement}
+use Rattle.code.proofs.statements.no_arguments.Tie as tie
+
+returns : tie.Need-returns
+unfolding noArguments
+returns c = refl
+
+pub no-arguments-spec : {M : Type 1} → statement M
+no-arguments-spec = tie.close (tie.spec returns)
