@@ -15,6 +15,8 @@ use Rattle.terms.specs.Leaves.{decimal, variable}
 use Rattle.terms.specs.Parsed.{Parsed, got, bad, next, mapped, word, ended, closed, repeated, joining}
 use Rattle.code.specs.declared.Form.{Form}
 use Rattle.code.specs.declared.Form.the-variants as Form
+use Rattle.code.specs.declared.Valued.{Valued}
+use Rattle.code.specs.declared.Valued.the-variants as Valued
 use Rattle.code.specs.Statements.{Statement, skip, set, new, call, get, await, if, else, fi, while, od, return}
 
 -- the word that a form begins with, with the space that follows it where the form has more
@@ -49,6 +51,12 @@ formOf s = elim (eqb (byteAt s 0) (code "s")) [
   | true ↦ elim (eqb (byteAt s 1) (code "k")) [ true ↦ some Form.Skip | false ↦ some Form.Set ]
   | false ↦ beginning (byteAt s 0) initials
 ]
+
+-- the forms that are a word and an expression
+abbrev pub valued : {A G : Type 0} → Valued → A → Statement A G
+valued Valued.If a = if a
+valued Valued.While a = while a
+valued Valued.Return a = return a
 
 -- "J 0..7"
 abbrev pub lastMethod : ℕ
@@ -89,12 +97,12 @@ module _ {A G : Type 0} (R : Reading A) (Q : GuardReading A G) (lim : Limits) (c
       next (decimal lastMethod s q) (λ r method. mapped (call x callee method) (arguments argumentsAfter r))))
   rest Form.Get at = next (target at) (λ p x. mapped (get x) (variable lim s p))
   rest Form.Await at = mapped await (guard R Q lim s brackets at)
-  rest Form.If at = mapped if (operand at)
+  rest Form.If at = mapped (valued Valued.If) (operand at)
   rest Form.Else at = got at else
   rest Form.Fi at = got at fi
-  rest Form.While at = mapped while (operand at)
+  rest Form.While at = mapped (valued Valued.While) (operand at)
   rest Form.Od at = got at od
-  rest Form.Return at = mapped return (operand at)
+  rest Form.Return at = mapped (valued Valued.Return) (operand at)
 
   -- a whole code value
   unfoldable pub statement : Parsed (Statement A G)

@@ -21,6 +21,13 @@ pub enum Form {
     Return,
 }
 
+// The forms that are a word and an expression.
+pub enum Valued {
+    If,
+    While,
+    Return,
+}
+
 pub enum FormFound {
     Is(Form),
     Nothing,

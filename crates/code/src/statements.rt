@@ -6,6 +6,7 @@ use crate::ReadCode;
 use crate::ReadList;
 use crate::ReadStatement;
 use crate::Statement;
+use crate::Valued;
 use terms::Around;
 use terms::Limits;
 use terms::ReadNumber;
@@ -22,7 +23,10 @@ ghost use Prim.Native.Nat.{_+_, _-_, _≤_, _<_, _^_};
 ghost use lib.ListN.{length, set};
 ghost use Rattle.terms.specs.Answers.{asVariable, asWord};
 ghost use Rattle.terms.specs.Leaves as Leaves;
-ghost use Rattle.terms.specs.Parsed.{word, closed};
+ghost use Rattle.terms.specs.Expressions.{brackets};
+ghost use Rattle.terms.specs.Parsed.{word, closed, ended, mapped};
+ghost use Rattle.terms.specs.Readers.{expressionRead};
+ghost use Rattle.code.specs.declared.Form.the-variants as Form;
 ghost use Rattle.code.specs.Answers as Answers;
 ghost use Rattle.code.specs.Reader as Reader;
 ghost use Rattle.code.specs.Readers as Readers;
@@ -201,5 +205,88 @@ fn gathered(
             arguments: no_arguments(),
         },
         ReadValue::Got(p, w) => gathered(s, p, more - 1, with_one(a, w), cells, around),
+    }
+}
+
+// A space and a list of arguments, with at most so many after the first; or neither.
+fn arguments(s: &[u8], at: usize, more: usize, cells: &[i32], around: Around) -> ReadList
+    requires { ⌜ more + 3 < 2 ^ 64 ⌝ }
+    ensures { λ r. ⌜ r ≡ Answers.asList (Readers.argumentsRead (now (cells .entry)) around 0 (now (s .entry)) more at) ⌝ }
+{
+    if leaves::byte_at(s, at) != b' ' {
+        return ReadList {
+            end: ReadWord::Got(at),
+            arguments: no_arguments(),
+        };
+    }
+    match expressions::expression(s, at + 1, cells, around, expressions::BRACKETS) {
+        ReadValue::Bad(p) => ReadList {
+            end: ReadWord::Bad(p),
+            arguments: no_arguments(),
+        },
+        ReadValue::Got(p, w) => gathered(s, p, more, with_one(no_arguments(), w), cells, around),
+    }
+}
+
+// A statement without arguments that was read up to a place.
+fn plain(s: &[u8], at: usize, statement: Statement) -> ReadCode
+    ensures { λ r. ⌜ r ≡ Answers.finished (now (s .entry)) at statement Answers.noArguments ⌝ }
+{
+    finished(s, at, statement, no_arguments())
+}
+
+// A form that is a word and an expression.
+fn valued(form: Valued, s: &[u8], at: usize, cells: &[i32], around: Around) -> ReadCode
+    ensures { λ r. ⌜ r ≡ Answers.asCode (ended (now (s .entry)) (mapped (Reader.valued form) (expressionRead (now (cells .entry)) around (now (s .entry)) brackets at))) ⌝ }
+{
+    match expressions::expression(s, at, cells, around, expressions::BRACKETS) {
+        ReadValue::Bad(p) => refused(p),
+        ReadValue::Got(p, w) => match form {
+            Valued::If => plain(s, p, Statement::If(w)),
+            Valued::While => plain(s, p, Statement::While(w)),
+            Valued::Return => plain(s, p, Statement::Return(w)),
+        },
+    }
+}
+
+// "set X E"
+fn set_form(s: &[u8], at: usize, cells: &[i32], around: Around) -> ReadCode
+    ensures { λ r. ⌜ r ≡ Readers.restRead (now (cells .entry)) around 0 (now (s .entry)) Form.Set at ⌝ }
+{
+    match target(around.limits, s, at) {
+        ReadVariable::Bad(p) => refused(p),
+        ReadVariable::Got(p, x) => match expressions::expression(
+            s,
+            p,
+            cells,
+            around,
+            expressions::BRACKETS,
+        ) {
+            ReadValue::Bad(q) => refused(q),
+            ReadValue::Got(q, w) => plain(s, q, Statement::Set(x, w)),
+        },
+    }
+}
+
+// "get X Y"
+fn get_form(s: &[u8], at: usize, cells: &[i32], around: Around) -> ReadCode
+    ensures { λ r. ⌜ r ≡ Readers.restRead (now (cells .entry)) around 0 (now (s .entry)) Form.Get at ⌝ }
+{
+    match target(around.limits, s, at) {
+        ReadVariable::Bad(p) => refused(p),
+        ReadVariable::Got(p, x) => match leaves::variable(around.limits, s, p) {
+            ReadVariable::Bad(q) => refused(q),
+            ReadVariable::Got(q, y) => plain(s, q, Statement::Get(x, y)),
+        },
+    }
+}
+
+// "await G"
+fn await_form(s: &[u8], at: usize, cells: &[i32], around: Around) -> ReadCode
+    ensures { λ r. ⌜ r ≡ Readers.restRead (now (cells .entry)) around 0 (now (s .entry)) Form.Await at ⌝ }
+{
+    match guards::guard(s, at, cells, around, expressions::BRACKETS) {
+        ReadValue::Bad(p) => refused(p),
+        ReadValue::Got(p, g) => plain(s, p, Statement::Await(g)),
     }
 }

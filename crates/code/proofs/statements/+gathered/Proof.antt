@@ -7,7 +7,7 @@ use lib.ListN.{length}
 use mathlib.Core.Option.{some}
 use mathlib.Core.Path.{_≡_, refl, sym, ap, _∙_}
 use native.Mathlib.Omega.{arith}
-use Rattle.code.proofs.Gathering.{comma-some, comma-none, comma-zero}
+use Rattle.code.proofs.Gathering.{comma-some, comma-none, comma-zero, one-more}
 use Rattle.code.proofs.statements.+gathered.Lts-gathered as gathered-lts
 use Rattle.code.proofs.statements.+gathered.Tie.{close}
 use Rattle.code.proofs.statements.+gathered.{statement}
@@ -53,11 +53,6 @@ found t c = comma-some _ (sym (c .before .byte-at .ensures) ∙ c .if2 .left)
 -- a number that is not 0 is one more than another
 more-is : (n : ℕ) → (n ≡ 0 → ⊥) → n ≡ suc (n - 1)
 more-is n h = let k = positive n h in omega arith
-
-one-more : (a : Arguments) (w : Worked) (r : Arguments) → r ≡ withOne a w → r .count ≡ a .count + 1
-unfolding withOne
-one-more a (Value z) r e = ap (λ (x : Arguments). x .count) e
-one-more a OutOfRange r e = ap (λ (x : Arguments). x .count) e
 
 gathered-returns : (t : ℕ) → gathered-lts.Need-returns (gathered-claims t) (gathered-at t) gathered.Post
 unfolding asList repeated
