@@ -4,12 +4,16 @@ use mathlib.Core.List.{List, [], _∷_}
 use mathlib.Core.Option.{Option, none, some}
 use mathlib.Core.Path.{_≡_, refl, ap, _∙_}
 use borrow.Author.Tests.{eq-eqb, ne-eqb}
+use Rattle.terms.specs.declared.Limits.{Limits}
 use Rattle.terms.specs.Bytes.{Text, byteAt}
+use Rattle.terms.specs.Expressions.{Reading}
+use Rattle.terms.specs.Guards.{GuardReading}
+use Rattle.terms.specs.Parsed.{bad, next, word, ended}
 use Rattle.code.specs.declared.Form.{Form}
 use Rattle.code.specs.declared.Form.the-variants as Form
 use Rattle.code.specs.declared.FormFound.the-variants as Form′
 use Rattle.code.specs.Answers.{asForm}
-use Rattle.code.specs.Reader.{beginning, initials, formOf}
+use Rattle.code.specs.Reader.{beginning, initials, formOf, wordOf, rest, statement}
 
 -- a byte that begins none of the forms
 pub beginning-none : (b : ℕ) → (b ≡ 110 → ⊥) → (b ≡ 99 → ⊥) → (b ≡ 103 → ⊥) → (b ≡ 97 → ⊥) → (b ≡ 105 → ⊥) → (b ≡ 101 → ⊥) → (b ≡ 102 → ⊥) → (b ≡ 119 → ⊥) → (b ≡ 111 → ⊥) → (b ≡ 114 → ⊥)
@@ -41,3 +45,14 @@ pub form-none : (o : Option Form) → asForm o ≡ Form′.Nothing → o ≡ non
 unfolding asForm
 form-none none e = refl
 form-none (some g) e = cc
+
+-- a code value, by its form
+module _ {A G : Type 0} (R : Reading A) (Q : GuardReading A G) (lim : Limits) (classes : ℕ) (s : Text) where
+  pub statement-none : formOf s ≡ none → statement R Q lim classes s ≡ bad 0
+  unfolding statement
+  statement-none e = rw (e, statement)
+
+  pub statement-some : (f : Form) → formOf s ≡ some f
+      → statement R Q lim classes s ≡ ended s (next (word (wordOf f) s 0) (λ at _. rest R Q lim classes s f at))
+  unfolding statement
+  statement-some f e = rw (e, statement)

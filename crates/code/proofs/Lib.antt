@@ -3,5 +3,6 @@ mod Cases
 pub mod Ending
 pub mod Forms
 pub mod Gathering
+pub mod Listing
 pub mod Open
 pub mod Respect

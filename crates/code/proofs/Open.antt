@@ -3,6 +3,7 @@ use Rattle.code.specs.Answers
 use Rattle.code.specs.Blocks
 use Rattle.code.specs.Partners
 use Rattle.code.specs.Reader
+use Rattle.code.specs.Readers
 use Rattle.code.specs.Statements
 use Rattle.terms.proofs.Open.{terms-open}
 
@@ -12,5 +13,5 @@ unfolding terms-open Answers.asForm Answers.noArguments Answers.withOne Answers.
     Blocks.closing Blocks.opening Blocks.without Blocks.with Blocks.through Blocks.throughAll Blocks.allClosed Blocks.balanced
     Partners.sameBlock Partners.fits Partners.linesBetween Partners.partners Partners.firstFrom Partners.lastBelow Partners.orEnd
     Partners.ahead Partners.goesFrom Partners.goesTo Reader.wordOf Reader.beginning Reader.formOf Reader.comma Reader.operand
-    Reader.listed Reader.arguments Reader.target Reader.rest Reader.statement Statements.mapStatement
+    Reader.listed Reader.arguments Reader.target Reader.rest Reader.statement Readers.listedRead Statements.mapStatement
 code-open = tt

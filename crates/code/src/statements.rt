@@ -21,7 +21,7 @@ use whole::Worked;
 ghost use mathlib.Core.Path.{_≡_};
 ghost use Prim.Native.Nat.{_+_, _-_, _≤_, _<_, _^_};
 ghost use lib.ListN.{length, set};
-ghost use Rattle.terms.specs.Answers.{asVariable, asWord};
+ghost use Rattle.terms.specs.Answers.{asValue, asVariable, asWord};
 ghost use Rattle.terms.specs.Leaves as Leaves;
 ghost use Rattle.terms.specs.Expressions.{brackets};
 ghost use Rattle.terms.specs.Parsed.{word, closed, ended, mapped};
@@ -288,5 +288,134 @@ fn await_form(s: &[u8], at: usize, cells: &[i32], around: Around) -> ReadCode
     match guards::guard(s, at, cells, around, expressions::BRACKETS) {
         ReadValue::Bad(p) => refused(p),
         ReadValue::Got(p, g) => plain(s, p, Statement::Await(g)),
+    }
+}
+
+// "new X K" or "new X K E,..": a class below `classes`, and any number of arguments.
+fn new_form(s: &[u8], at: usize, classes: u32, cells: &[i32], around: Around) -> ReadCode
+    requires { ⌜ 0 < classes ⌝ }
+    ensures { λ r. ⌜ r ≡ Readers.restRead (now (cells .entry)) around classes (now (s .entry)) Form.New at ⌝ }
+{
+    match target(around.limits, s, at) {
+        ReadVariable::Bad(p) => refused(p),
+        ReadVariable::Got(p, x) => match leaves::decimal(classes - 1, s, p) {
+            ReadNumber::Bad(q) => refused(q),
+            ReadNumber::Got(q, class) => listed(
+                s,
+                q,
+                s.len(),
+                Statement::New(x, class),
+                cells,
+                around,
+            ),
+        },
+    }
+}
+
+// A statement that is read up to its arguments, with at most so many after the first.
+fn listed(
+    s: &[u8],
+    at: usize,
+    more: usize,
+    statement: Statement,
+    cells: &[i32],
+    around: Around,
+) -> ReadCode
+    requires { ⌜ more + 3 < 2 ^ 64 ⌝ }
+    ensures { λ r. ⌜ r ≡ Readers.listedRead (now (cells .entry)) around 0 (now (s .entry)) statement more at ⌝ }
+{
+    let list = arguments(s, at, more, cells, around);
+    let end = list.end;
+    match end {
+        ReadWord::Bad(p) => refused(p),
+        ReadWord::Got(p) => finished(s, p, statement, list.arguments),
+    }
+}
+
+// An expression and a space.
+fn spaced(s: &[u8], at: usize, cells: &[i32], around: Around) -> ReadValue
+    ensures { λ r. ⌜ r ≡ asValue (closed 32 (now (s .entry)) (expressionRead (now (cells .entry)) around (now (s .entry)) brackets at)) ⌝ }
+{
+    match expressions::expression(s, at, cells, around, expressions::BRACKETS) {
+        ReadValue::Bad(p) => ReadValue::Bad(p),
+        ReadValue::Got(p, a) => {
+            if leaves::byte_at(s, p) == b' ' {
+                ReadValue::Got(p + 1, a)
+            } else {
+                ReadValue::Bad(p)
+            }
+        }
+    }
+}
+
+// "call X E J" or "call X E J E,..": 0 to 4 arguments.
+fn call_form(s: &[u8], at: usize, cells: &[i32], around: Around) -> ReadCode
+    ensures { λ r. ⌜ r ≡ Readers.restRead (now (cells .entry)) around 0 (now (s .entry)) Form.Call at ⌝ }
+{
+    match target(around.limits, s, at) {
+        ReadVariable::Bad(p) => refused(p),
+        ReadVariable::Got(p, x) => match spaced(s, p, cells, around) {
+            ReadValue::Bad(q) => refused(q),
+            ReadValue::Got(q, callee) => method(s, q, x, callee, cells, around),
+        },
+    }
+}
+
+// The method of a `call`, and its arguments.
+fn method(
+    s: &[u8],
+    at: usize,
+    x: Variable,
+    callee: Worked,
+    cells: &[i32],
+    around: Around,
+) -> ReadCode
+    ensures { λ r. ⌜ r ≡ Readers.methodRead (now (cells .entry)) around 0 (now (s .entry)) x callee at ⌝ }
+{
+    match leaves::decimal(LAST_METHOD, s, at) {
+        ReadNumber::Bad(p) => refused(p),
+        ReadNumber::Got(p, j) => listed(
+            s,
+            p,
+            ARGUMENTS_AFTER,
+            Statement::Call(x, callee, j),
+            cells,
+            around,
+        ),
+    }
+}
+
+// What follows the word of a form.
+fn rest(form: Form, s: &[u8], at: usize, classes: u32, cells: &[i32], around: Around) -> ReadCode
+    requires { ⌜ 0 < classes ⌝ }
+    ensures { λ r. ⌜ r ≡ Readers.restRead (now (cells .entry)) around classes (now (s .entry)) form at ⌝ }
+{
+    match form {
+        Form::Skip => plain(s, at, Statement::Skip),
+        Form::Set => set_form(s, at, cells, around),
+        Form::New => new_form(s, at, classes, cells, around),
+        Form::Call => call_form(s, at, cells, around),
+        Form::Get => get_form(s, at, cells, around),
+        Form::Await => await_form(s, at, cells, around),
+        Form::If => valued(Valued::If, s, at, cells, around),
+        Form::Else => plain(s, at, Statement::Else),
+        Form::Fi => plain(s, at, Statement::Fi),
+        Form::While => valued(Valued::While, s, at, cells, around),
+        Form::Od => plain(s, at, Statement::Od),
+        Form::Return => valued(Valued::Return, s, at, cells, around),
+    }
+}
+
+// A code value: the statement that it is, with its values worked out, or the place of its refusal.
+pub fn statement(s: &[u8], classes: u32, cells: &[i32], around: Around) -> ReadCode
+    requires { ⌜ 0 < classes ⌝ }
+    ensures { λ r. ⌜ r ≡ Readers.statementRead (now (cells .entry)) around classes (now (s .entry)) ⌝ }
+{
+    match form_of(s) {
+        FormFound::Nothing => refused(0),
+        FormFound::Is(form) => match word_of(form, s) {
+            ReadWord::Bad(p) => refused(p),
+            ReadWord::Got(p) => rest(form, s, p, classes, cells, around),
+        },
     }
 }
