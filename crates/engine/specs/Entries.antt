@@ -2,7 +2,7 @@
 -- first, then 10, then (start excepted) 11, then 13 or 14, then the choice". Assumes nothing.
 use Prim.Native.Nat.{ℕ}
 use mathlib.Core.Bool.{Bool, true, false}
-use mathlib.Core.List.{List, [], _∷_}
+use mathlib.Core.List.{List, []}
 use lib.Dec.{leb, eqb}
 use lib.IntN.{ℤ}
 use lib.ListN.{length}
@@ -10,11 +10,10 @@ use Rattle.whole.specs.Refusals.{accepted, cellsNotAll, noConfiguration, answer
 use Rattle.layout.specs.Layout.{Cells, size}
 use Rattle.terms.specs.Bytes.{Text}
 use Rattle.model.specs.declared.Verdict.{Verdict}
-use Rattle.model.specs.Judge.{Judged, refusal, model, judged}
+use Rattle.model.specs.Judge.{refusal, model, judged}
 use Rattle.model.specs.Model.{Model}
 use Rattle.cells.specs.Configuration.{isConfiguration}
 use Rattle.rules.specs.declared.Choice.{Choice}
-use Rattle.rules.specs.Next.{Next, refused, moved}
 use Rattle.rules.specs.Step.{Kind, next}
 use Rattle.engine.specs.Start.{fresh}
 use Rattle.engine.specs.Run.{runCells, runAnswers, answerOf, cellsAfter}
