@@ -1,15 +1,15 @@
 -- "A configuration of a model has ..": condition by condition. Assumes nothing.
 use Prim.Native.Nat.{ℕ, _+_, _-_}
 use mathlib.Core.Bool.{Bool, true, false, _&&_, _||_}
-use mathlib.Core.List.{List, [], _∷_}
-use mathlib.Core.Option.{Option, none, some}
+use mathlib.Core.List.{[], _∷_}
+use mathlib.Core.Option.{none, some}
 use lib.Dec.{leb}
 use lib.IntN.{ℤ, pos}
 use lib.ListN.{take, drop}
 use Rattle.whole.specs.Plain.{all, allTo, allBelow, whenever}
 use Rattle.whole.specs.Whole.{between, eqZ, nat}
 use Rattle.layout.specs.Layout.{Cells, size, firstCall, objectRows, callRows, attributes, locals, object, call, cellOf, read, objects, calls, ofObject, ofCall, runningLabel, attribute, stage, caller, callee, method, args, line, cleared, value, local}
-use Rattle.layout.specs.Stages.{invoked, bound, running, answered, taken, labelOf, inStage}
+use Rattle.layout.specs.Stages.{invoked, bound, running, answered, taken, nobody, labelOf, inStage}
 use Rattle.code.specs.Statements.{Code}
 use Rattle.code.specs.Blocks.{shapeOf, isShape, aReturn, anAwait}
 use Rattle.model.specs.Model.{Model, runs}
@@ -71,6 +71,7 @@ module _ (m : Model) (c : Cells) where
       between (pos 0) (pos mostParams) (ofCall c l args)
       ∷ zeroFrom locals (nat (ofCall c l args)) (λ i. ofCall c l (local i))
       ∷ is (ofCall c l line) 0
+      -- "Cleared .. is 1 only in stages 3 and 4": here it is 0
       ∷ is (ofCall c l cleared) 0
       ∷ [])
 
@@ -95,7 +96,7 @@ module _ (m : Model) (c : Cells) where
 
   -- "Caller 0 stands only in stages 3, 4 and 7, with method 0 of a class with run 1."
   unfoldable pub callerlessHolds : ℕ → Bool
-  callerlessHolds l = whenever (is (ofCall c l caller) 0) (all (
+  callerlessHolds l = whenever (eqZ (ofCall c l caller) nobody) (all (
       (stageIn l bound running || inStage c l taken)
       ∷ is (ofCall c l method) 0
       ∷ (elim (classOf m c (nat (ofCall c l callee))) [ none ↦ false | some k ↦ runs k ])

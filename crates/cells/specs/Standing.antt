@@ -1,7 +1,7 @@
 -- Where an object and a call stand in the model: the class, the body that binding finds, and the line. Assumes nothing.
 use Prim.Native.Nat.{ℕ}
-use mathlib.Core.List.{List, [], _∷_, map}
-use mathlib.Core.Option.{Option, none, some}
+use mathlib.Core.List.{List, map}
+use mathlib.Core.Option.{Option}
 use lib.ListN.{getElem?}
 use Rattle.whole.specs.Plain.{_>>=_}
 use Rattle.whole.specs.Whole.{natural}

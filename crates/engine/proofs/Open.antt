@@ -7,6 +7,6 @@ use Rattle.rules.proofs.Open.{rules-open}
 
 unfoldable pub engine-open : Unit {0}
 unfolding rules-open Drive.inUse Drive.choicesOf Drive.choicesIn Drive.firstAccepted Drive.isQuiet Drive.driven Entries.atNoLine
-    Entries.unmoved Entries.withModel Entries.withConfiguration Entries.start Entries.step Entries.run Entries.droveTo Entries.driveIn
+    Entries.outcome Entries.withModel Entries.withConfiguration Entries.start Entries.step Entries.run Entries.droveTo Entries.driveIn
     Entries.drive Run.answerOf Run.cellsAfter Run.runCells Run.runAnswers Run.paired Start.fresh
 engine-open = tt

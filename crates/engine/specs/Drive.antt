@@ -8,7 +8,7 @@ use Rattle.whole.specs.Whole.{nat}
 use Rattle.layout.specs.Layout.{Cells, read, objects, calls}
 use Rattle.model.specs.Model.{Model}
 use Rattle.rules.specs.declared.Choice.{Choice}
-use Rattle.rules.specs.Next.{Next, refused, moved}
+use Rattle.rules.specs.Next.{refused, moved}
 use Rattle.rules.specs.Step.{Kind, exec, arrive, bind, start, deliver, kindNumber, next}
 
 -- "With a budget 0..10,000"

@@ -1,8 +1,8 @@
 -- The entries start, step, run and drive: their whole result and every lent cell afterwards, on all inputs. "Every entry judges the text
--- first, then 10, then (start excepted) 11, then 13 or 14, then the choice." Assumes nothing.
+-- first, then 10, then (start excepted) 11, then 13 or 14, then the choice". Assumes nothing.
 use Prim.Native.Nat.{ℕ}
 use mathlib.Core.Bool.{Bool, true, false}
-use mathlib.Core.List.{List, [], _∷_}
+use mathlib.Core.List.{List, []}
 use lib.Dec.{leb, eqb}
 use lib.IntN.{ℤ}
 use lib.ListN.{length}
@@ -10,11 +10,10 @@ use Rattle.whole.specs.Refusals.{accepted, cellsNotAll, noConfiguration, answer
 use Rattle.layout.specs.Layout.{Cells, size}
 use Rattle.terms.specs.Bytes.{Text}
 use Rattle.model.specs.declared.Verdict.{Verdict}
-use Rattle.model.specs.Judge.{Judged, refusal, model, judged}
+use Rattle.model.specs.Judge.{refusal, model, judged}
 use Rattle.model.specs.Model.{Model}
 use Rattle.cells.specs.Configuration.{isConfiguration}
 use Rattle.rules.specs.declared.Choice.{Choice}
-use Rattle.rules.specs.Next.{Next, refused, moved}
 use Rattle.rules.specs.Step.{Kind, next}
 use Rattle.engine.specs.Start.{fresh}
 use Rattle.engine.specs.Run.{runCells, runAnswers, answerOf, cellsAfter}
@@ -32,37 +31,39 @@ pub record Outcome : Type 0 where
 unfoldable pub atNoLine : ℕ → Verdict
 atNoLine n = record { number = n; line = 0 }
 
--- "A refusal writes no cell and no answer"; "A refused drive gives 0 steps, not quiet."
-unfoldable pub unmoved : Verdict → Cells → List ℤ → Outcome
-unmoved v c answers = record { verdict = v; cells = c; answers = answers; steps = 0; quiet = false }
+-- a verdict, with the cells and the answers afterwards: every outcome but that of an accepted drive. "A refused drive gives 0 steps, not
+-- quiet."
+unfoldable pub outcome : Verdict → Cells → List ℤ → Outcome
+outcome v c answers = record { verdict = v; cells = c; answers = answers; steps = 0; quiet = false }
 
--- the text, then 10: what an entry does with the model of an accepted text and cells of the right number
+-- the text, then 10: what an entry does with the model of an accepted text and cells of the right number. "A refusal writes no cell and no
+-- answer": here and below, a refusal gives back those that were lent
 unfoldable pub withModel : Text → Cells → List ℤ → (Model → Outcome) → Outcome
 withModel s c answers go = elim (judged s) [
-  | refusal n at ↦ unmoved (record { number = n; line = at }) c answers
-  | model m ↦ elim (eqb (length c) size) [ true ↦ go m | false ↦ unmoved (atNoLine cellsNotAll) c answers ]
+  | refusal n at ↦ outcome (record { number = n; line = at }) c answers
+  | model m ↦ elim (eqb (length c) size) [ true ↦ go m | false ↦ outcome (atNoLine cellsNotAll) c answers ]
 ]
 
 -- then 11
 unfoldable pub withConfiguration : Text → Cells → List ℤ → (Model → Outcome) → Outcome
 withConfiguration s c answers go = withModel s c answers (λ m. elim (isConfiguration m c) [
   | true ↦ go m
-  | false ↦ unmoved (atNoLine noConfiguration) c answers
+  | false ↦ outcome (atNoLine noConfiguration) c answers
 ])
 
--- start: "The entry start writes all 2,370 cells"
+-- start: every cell is written, whatever it held
 unfoldable pub start : Text → Cells → Outcome
-start s c = withModel s c [] (λ m. unmoved (atNoLine accepted) fresh [])
+start s c = withModel s c [] (λ m. outcome (atNoLine accepted) fresh [])
 
 -- step: one choice
 unfoldable pub step : Text → Cells → Choice → Outcome
-step s c choice = withConfiguration s c [] (λ m. unmoved (atNoLine (answerOf (next m c choice))) (cellsAfter c (next m c choice)) [])
+step s c choice = withConfiguration s c [] (λ m. outcome (atNoLine (answerOf (next m c choice))) (cellsAfter c (next m c choice)) [])
 
 -- run: "12 and 20 to 33 inside a run fill only their own place in the answers"
 unfoldable pub run : Text → Cells → List Choice → List ℤ → Outcome
 run s c choices answers = withConfiguration s c answers (λ m. elim (eqb (length answers) (length choices)) [
-  | true ↦ unmoved (atNoLine accepted) (runCells m c choices) (runAnswers m c choices)
-  | false ↦ unmoved (atNoLine answersDiffer) c answers
+  | true ↦ outcome (atNoLine accepted) (runCells m c choices) (runAnswers m c choices)
+  | false ↦ outcome (atNoLine answersDiffer) c answers
 ])
 
 -- drive: "It gives the steps taken, and quiet"
@@ -78,7 +79,7 @@ droveTo m order d = record {
 unfoldable pub driveIn : List Kind → Text → Cells → ℕ → Outcome
 driveIn order s c budget = withConfiguration s c [] (λ m. elim (leb budget mostSteps) [
   | true ↦ droveTo m order (driven m order budget 0 c)
-  | false ↦ unmoved (atNoLine budgetTooLarge) c []
+  | false ↦ outcome (atNoLine budgetTooLarge) c []
 ])
 
 unfoldable pub drive : Text → Cells → ℕ → Outcome

@@ -34,7 +34,7 @@ runAnswers m c (choice ∷ choices) = elim (next m c choice) [
   | moved d ↦ pos accepted ∷ runAnswers m d choices
 ]
 
--- numbers two by two: "choices: kind and number, i32 each, one after the other"; an odd one at the end is not a choice
+-- choices from numbers two by two, each a kind and then its number; an odd one at the end is not a choice
 unfoldable pub paired : List ℤ → List Choice
 paired [] = []
 paired (kind ∷ []) = []

@@ -3,7 +3,7 @@ use mathlib.Core.List.{List, [], _∷_}
 use mathlib.Core.Option.{Option, none, some}
 use mathlib.Core.Path.{refl}
 use Prim.Native.Nat.{ℕ}
-use lib.IntN.{ℤ, pos, negsuc}
+use lib.IntN.{pos, negsuc}
 use lib.ListN.{replicate}
 use Rattle.whole.proofs.Tables.{Row, _is_, Holds}
 use Rattle.layout.specs.Layout.{Cells, size, write, objects, calls, newCall}

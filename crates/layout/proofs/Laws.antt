@@ -1,6 +1,6 @@
 -- Different places have different cells, and a write changes its own place alone. The proofs go by the constants of the layout as they
 -- compute, so that a wider row leaves this file as it is. Assumes nothing.
-use Prim.Native.Nat.{ℕ, _+_, _-_, _*_, _≤_, _<_}
+use Prim.Native.Nat.{_<_}
 use mathlib.Core.Path.{_≡_, ap, ap₂}
 use mathlib.Core.Logic.{_≢_}
 use native.Mathlib.Omega.{arith}

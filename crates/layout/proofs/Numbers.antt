@@ -1,20 +1,20 @@
 -- What the tests of a number say of the label that it is. Assumes nothing.
-use Prim.Native.Nat.{ℕ, suc, _^_, _<_}
-use mathlib.Core.Bool.{Bool, true, false, _&&_, false≢true}
+use Prim.Native.Nat.{ℕ}
+use mathlib.Core.Bool.{Bool, true, false, false≢true}
 use mathlib.Core.Option.{Option, none, some}
-use mathlib.Core.Path.{_≡_, refl, sym, ap, _∙_}
+use mathlib.Core.Path.{_≡_, refl, ap}
 use native.Mathlib.Omega.{arith}
 use lib.Dec.{T}
 use lib.IntN.{ℤ, pos, negsuc, natAbs}
 use lib.Signed.{nonNeg}
 use mir.Syntax.{w32}
 use mir.Val.{Fits, SFits}
-use Rattle.whole.specs.Whole.{between, nat, eqZ}
+use Rattle.whole.specs.Whole.{between, nat}
 use Rattle.layout.specs.declared.Label.{Label}
 use Rattle.layout.specs.declared.LabelFound.{LabelFound}
 use Rattle.layout.specs.declared.LabelFound.the-variants.{At, Nothing}
 use Rattle.layout.specs.Found.{asLabel}
-use Rattle.layout.specs.Layout.{Cells, read, calls, ofCall, stage, caller}
+use Rattle.layout.specs.Layout.{Cells, read, calls}
 use Rattle.layout.specs.Stages.{onlyIf, labelOf, isReply, replyFor}
 
 module _ (k z : ℤ) (h : between (pos 1) k z ≡ true) where

@@ -1,4 +1,4 @@
--- "The configuration. 2,370 cells of i32": the cells by named places. All that is said of a configuration goes through these names,
+-- "The configuration", "2,370 cells of i32": the cells by named places. All that is said of a configuration goes through these names,
 -- so that a wider row changes the constants here and nothing else. Assumes nothing.
 use Prim.Native.Nat.{ℕ, _+_, _-_, _*_, _≤_, _<_}
 use mathlib.Core.List.{List, [], _∷_, _++_}
@@ -114,7 +114,7 @@ value = 7
 abbrev pub local : ℕ → ℕ
 local i = 8 + i
 
--- the row of a label: a label is not a row, and this alone goes from one to the other
+-- the row of a label. Today it is the label: "Row i, from 1, is object i or label i." This one function is the way from the one to the other
 unfoldable pub rowOf : Cells → ℕ → ℕ
 rowOf c label = label
 

@@ -1,5 +1,6 @@
 -- Verdicts on texts near the session's, computed: number, then line. Assumes nothing.
-use Prim.Native.Nat.{ℕ}
+use Prim.Native.Nat.{ℕ, zero, suc, _+_}
+use Prim.Native.Char.{code}
 use mathlib.Core.List.{List, [], _∷_, _++_}
 use mathlib.Core.Path.{refl}
 use lib.ListN.{replicate}
@@ -109,3 +110,36 @@ holds = (
     ),
   ),
 )
+
+-- a line so many times
+again : ℕ → Text → Text
+again zero l = []
+again (suc n) l = l ++ again n l
+
+-- so many methods, each of 64 lines
+long-methods : ℕ → Text
+long-methods zero = []
+long-methods (suc j) =
+    long-methods j
+    ++ bytes "method=" ++ (code "0" + j) ∷ bytes "\nparams=0\nlocals=0\nlines=64\n"
+    ++ again 63 (bytes "code=skip\n")
+    ++ bytes "code=return 0\n"
+
+-- a class with 512 lines, and the beginning of another
+long-class : Text → Text
+long-class next =
+    bytes "creol=1\nclasses=2\nclass=0\nattrs=0\ngiven=0\nrun=1\nmethods=8\n"
+    ++ long-methods 8
+    ++ bytes "class=1\nattrs=0\ngiven=0\nrun=0\n"
+    ++ next
+
+long-table : List (Row (List ℕ))
+long-table =
+    -- "All `lines=` together are at most 512.": all of them, and one more, at its `lines=`
+    (verdict (long-class (bytes "methods=0\n")) is 0 ∷ 0 ∷ [])
+    ∷ (verdict (long-class (bytes "methods=1\nmethod=0\nparams=0\nlocals=0\nlines=1\n")) is 4 ∷ 560 ∷ [])
+    ∷ []
+
+long-holds : Holds long-table
+unfolding model-open verdict again long-methods long-class long-table
+long-holds = (refl, (refl, tt))

@@ -1,8 +1,8 @@
 -- The verdict on every list of bytes, and the model that an accepted text gives. Assumes nothing.
 use Prim.Native.Nat.{ℕ, _+_}
-use mathlib.Core.Bool.{Bool, true, false}
+use mathlib.Core.Bool.{true, false}
 use mathlib.Core.List.{List, [], _∷_}
-use mathlib.Core.Option.{Option, none, some}
+use mathlib.Core.Option.{none, some}
 use lib.Dec.{ltb, eqb}
 use lib.ListN.{length, getElem?}
 use Rattle.whole.specs.Refusals.{accepted, textTooLong, wrongKey, wrongCode}
@@ -10,8 +10,8 @@ use Rattle.terms.specs.Bytes.{Text}
 use Rattle.model.specs.declared.Verdict.{Verdict}
 use Rattle.model.specs.Lines.{Line, lines, longestText}
 use Rattle.model.specs.Keys.{Asked, aNumber, aCode, nothing, asked}
-use Rattle.model.specs.Model.{Class, Model}
-use Rattle.model.specs.Automaton.{Creation, State, begin, Fed, refused, fed, feed}
+use Rattle.model.specs.Model.{Model}
+use Rattle.model.specs.Automaton.{Creation, State, begin, refused, fed, feed}
 
 -- a text is refused with a verdict, or gives a model
 pub data Judged : Type 0 where

@@ -1,5 +1,4 @@
 -- "Every line is key=value, in this order". Assumes nothing.
-use Prim.Native.Nat.{ℕ}
 use Rattle.terms.specs.Bytes.{Text, bytes}
 
 -- the key that comes next, or the end of the text

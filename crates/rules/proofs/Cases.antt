@@ -12,7 +12,7 @@ use Rattle.model.specs.Judge.{judged, refusal, model}
 use Rattle.model.specs.Model.{Model}
 use Rattle.model.proofs.Session.{session-texts, session, session-with}
 use Rattle.rules.specs.declared.Choice.{Choice}
-use Rattle.rules.specs.Next.{Next, refused, moved}
+use Rattle.rules.specs.Next.{refused, moved}
 use Rattle.rules.specs.Step.{Kind, exec, arrive, bind, start, deliver, kindNumber, next}
 use Rattle.rules.proofs.Open.{rules-open}
 

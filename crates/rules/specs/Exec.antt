@@ -1,18 +1,17 @@
 -- "exec O (kind 1): O's running call performs its line." Assumes nothing.
 use Prim.Native.Nat.{ℕ, _+_}
 use mathlib.Core.Bool.{Bool, true, false, _&&_}
-use mathlib.Core.List.{List, [], _∷_, map}
-use mathlib.Core.Option.{Option, none, some}
+use mathlib.Core.List.{List, [], map}
+use mathlib.Core.Option.{none, some}
 use lib.Dec.{leb}
 use lib.IntN.{ℤ, pos}
-use lib.ListN.{length, getElem?}
+use lib.ListN.{getElem?}
 use Rattle.whole.specs.Refusals.{objectIdle, pastTheEnd, calleeNoObject, objectRowsFull, callRowsFull, replyNotIn}
 use Rattle.whole.specs.Whole.{isTrue, eqZ, nat}
 use Rattle.layout.specs.Layout.{Cells, objectRows, callRows, read, write, objects, calls, ofObject, ofCall, toObject, toCall, runningLabel, attribute, caller, line, cleared, value, local, newObject, newCall}
 use Rattle.layout.specs.Stages.{invoked, bound, running, answered, taken, nobody, objectOf, labelOf, replyFor, staged}
 use Rattle.terms.specs.declared.Variable.{Variable}
 use Rattle.terms.specs.declared.Variable.the-variants.{Attribute, Local}
-use Rattle.terms.specs.Trees.{Expression, Guard}
 use Rattle.terms.specs.Values.{Surroundings, held, valueOf, guardOf}
 use Rattle.code.specs.Statements.{Code, skip, set, new, call, get, await, if, else, fi, while, od, return}
 use Rattle.code.specs.Partners.{goesTo}

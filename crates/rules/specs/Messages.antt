@@ -1,8 +1,8 @@
 -- arrive, bind, start and deliver: the rules of a label. Assumes nothing.
 use Prim.Native.Nat.{ℕ}
-use mathlib.Core.Bool.{Bool, true, false, not}
-use mathlib.Core.Option.{Option, none, some}
-use lib.IntN.{ℤ, pos}
+use mathlib.Core.Bool.{not}
+use mathlib.Core.Option.{none, some}
+use lib.IntN.{pos}
 use Rattle.whole.specs.declared.Worked.{Worked}
 use Rattle.whole.specs.declared.Worked.the-variants.{Value}
 use Rattle.whole.specs.Refusals.{notInvoked, notQueued, noSuchMethod, notBound, objectBusy, notReady, notAnswered}

@@ -12,7 +12,7 @@ pub data Next : Type 0 where
   refused : ℕ → Next
   moved : Cells → Next
 
--- "29: a value out of range": what is done with a value that was worked out
+-- 29, "a value out of range": what is done with a value that was worked out
 unfoldable pub working : Worked → (ℤ → Next) → Next
 working (Value z) k = k z
 working OutOfRange k = refused outOfRange

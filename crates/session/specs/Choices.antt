@@ -1,14 +1,14 @@
 -- "choices from standard input (at most 4,096 bytes), a line each". Assumes nothing.
 use Prim.Native.Nat.{ℕ, _+_, _*_}
-use mathlib.Core.Bool.{Bool, true, false, _&&_}
+use mathlib.Core.Bool.{true, false, _&&_}
 use mathlib.Core.List.{List, [], _∷_, map}
 use mathlib.Core.Option.{Option, none, some}
 use lib.Dec.{leb}
 use lib.IntN.{pos}
 use lib.ListN.{length, take, drop}
 use Rattle.terms.specs.Bytes.{Text, bytes, digit}
-use Rattle.terms.specs.Parsed.{Parsed, got, bad, word}
-use Rattle.model.specs.Lines.{Line, lines, content}
+use Rattle.terms.specs.Parsed.{got, bad, word}
+use Rattle.model.specs.Lines.{lines, content}
 use Rattle.rules.specs.declared.Choice.{Choice}
 use Rattle.rules.specs.Step.{Kind, exec, arrive, bind, start, deliver, kindNumber}
 

@@ -6,7 +6,7 @@ use lib.IntN.{ℤ, pos}
 use Rattle.whole.specs.Whole.{eqZ, nat}
 use Rattle.layout.specs.Layout.{Cells, read, objects, calls}
 use Rattle.terms.specs.Bytes.{Text, bytes}
-use Rattle.model.specs.Judge.{Judged, refusal, model, judged}
+use Rattle.model.specs.Judge.{refusal, model, judged}
 use Rattle.model.specs.Model.{Model}
 use Rattle.rules.specs.declared.Choice.{Choice}
 use Rattle.engine.specs.Start.{fresh}

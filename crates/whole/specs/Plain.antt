@@ -20,7 +20,7 @@ abbrev pub all : List Bool → Bool
 all [] = true
 all (b ∷ bs) = b && all bs
 
--- where a test passes, what it says need not be looked at: a test asked only under a condition
+-- a test that is asked only under a condition: where the condition does not hold, nothing is asked
 abbrev pub whenever : Bool → Bool → Bool
 whenever true b = b
 whenever false b = true

@@ -1,7 +1,7 @@
 -- `layout::reply_for` meets its contract. Assumes nothing.
 use borrow.Author.Needs.{needs}
 use denote.Ref.{now}
-use mathlib.Core.Bool.{Bool, true, false}
+use mathlib.Core.Bool.{true, false}
 use mathlib.Core.Path.{_≡_, sym, ap, _∙_}
 use mir.Syntax.{w32}
 use mir.ValLaws.{toZ-ofZ}

@@ -1,5 +1,5 @@
 -- `whole::as_natural` meets its contract. Assumes nothing.
-use mathlib.Core.Bool.{Bool, true, false, false≢true}
+use mathlib.Core.Bool.{true, false, false≢true}
 use mathlib.Core.Path.{_≡_, refl, sym, _∙_}
 use borrow.Author.Tests.{le-ltb}
 use native.Mathlib.Omega.{arith}

@@ -1,7 +1,6 @@
 -- `whole::equal` meets its contract: a test of two values is 1 or 0. Assumes nothing.
-use mathlib.Core.Path.{ap, ap₂, _∙_}
+use mathlib.Core.Path.{ap, _∙_}
 use borrow.Author.Needs.{needs}
-use lib.Signed.{ltZ}
 use mir.Syntax.{w32}
 use mir.ValLaws.{toZ-ofZ}
 use Rattle.whole.specs.Whole.{truth, apply}

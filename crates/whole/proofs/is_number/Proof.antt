@@ -1,7 +1,6 @@
 -- `whole::is_number` meets its contract. Assumes nothing.
 use borrow.Author.Needs.{needs}
-use lib.IntN.{pos}
-use mathlib.Core.Path.{_≡_, refl, sym, ap, _∙_}
+use mathlib.Core.Path.{refl, sym, ap, _∙_}
 use mir.Syntax.{w32}
 use mir.ValLaws.{toZ-ofZ}
 use Rattle.whole.proofs.Ranges.{natural-is, natural-not}

@@ -6,7 +6,6 @@ use mir.Syntax.{w32}
 use mir.ValLaws.{toZ-ofZ}
 use Rattle.whole.specs.Whole.{truth, apply}
 use Rattle.whole.specs.declared.Worked.the-variants.{Value}
-use Rattle.whole.proofs.Ranges.{same-bits}
 use Rattle.whole.proofs.less.Statement.{statement}
 use Rattle.whole.proofs.less.Tie as tie
 

@@ -1,5 +1,5 @@
 -- `whole::product` meets its contract: in 64 bits the product of two values is exact. Assumes nothing.
-use mathlib.Core.Path.{sym, ap, ap₂, _∙_}
+use mathlib.Core.Path.{ap, ap₂, _∙_}
 use borrow.Author.Needs.{needs}
 use lib.IntN.{_*ℤ_}
 use mir.Syntax.{w64}

@@ -9,8 +9,6 @@ use mir.ValLaws.{toZ-ofZ}
 use Rattle.whole.proofs.Ranges.{below-range, above-range, in-range, within-range}
 use Rattle.whole.proofs.within.Statement.{statement}
 use Rattle.whole.proofs.within.Tie as tie
-use Rattle.whole.proofs.within.Reads as reads
-use Rattle.whole.proofs.within.Lts as lts
 
 returns : tie.Need-returns
 returns c =
