@@ -1,5 +1,7 @@
 // The verdict on a model text, and the table that later parts find its lines by.
 
+pub mod lines;
+
 // A number given back, with the line of the text that it names: 0 where it names none.
 pub struct Verdict {
     pub number: u32,
