@@ -2,22 +2,22 @@
 use Prim.Native.Nat.{ℕ, _+_, _-_, min}
 use mathlib.Core.Bool.{Bool, true, false, _&&_}
 use mathlib.Core.List.{List, [], _∷_, _++_}
-use mathlib.Core.Option.{Option, none, some}
+use mathlib.Core.Option.{none, some}
 use lib.Dec.{leb, ltb, eqb}
 use lib.ListN.{length, drop}
 use Rattle.whole.specs.Refusals.{brokenLine, wrongKey, wrongNumber, wrongCode, wrongBlocks}
 use Rattle.layout.specs.Layout as Layout
 use Rattle.terms.specs.Bytes.{Text}
 use Rattle.terms.specs.declared.Limits.{Limits}
-use Rattle.terms.specs.Leaves.{decimal}
-use Rattle.terms.specs.Parsed.{Parsed, got, bad, word, ended}
+use Rattle.terms.specs.Parsed.{got, bad, word}
 use Rattle.terms.specs.Trees.{trees, guardTrees}
 use Rattle.code.specs.Statements.{Code, skip, set, new, call, get, await, if, else, fi, while, od, return}
 use Rattle.code.specs.Blocks.{Shape, aReturn, isShape, Block, shapeOf, through}
 use Rattle.code.specs.Reader.{statement}
 use Rattle.model.specs.Lines.{Line, sound, content}
 use Rattle.model.specs.Keys.{Key, creol, classes, class, attrs, given, run, methods, method, params, locals, lines, code, end, nameOf, Asked, aNumber, aCode, nothing, asked}
-use Rattle.model.specs.Model.{Method, Class, Model}
+use Rattle.model.specs.Model.{Method, Class}
+use Rattle.model.specs.Numbers.{numberIn}
 
 -- "`creol=1`"
 abbrev pub edition : ℕ
@@ -197,11 +197,11 @@ pub data Fed : Type 0 where
   refused : ℕ → Fed
   fed : State → Fed
 
--- "A decimal has no leading zero, except 0 itself.": the whole value, in its range
+-- "a number outside code: its form, its range, or the 512"
 unfoldable pub numberLine : State → Text → Fed
-numberLine st value = elim (ended value (decimal (highest (st .key) st) value 0)) [
-  | got at n ↦ elim (leb (lowest (st .key) st) n) [ true ↦ fed (numbered (st .key) st n) | false ↦ refused wrongNumber ]
-  | bad at ↦ refused wrongNumber
+numberLine st value = elim (numberIn (lowest (st .key) st) (highest (st .key) st) value) [
+  | some n ↦ fed (numbered (st .key) st n)
+  | none ↦ refused wrongNumber
 ]
 
 -- the `new`s of a line
