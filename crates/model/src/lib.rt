@@ -1,5 +1,6 @@
 // The verdict on a model text, and the table that later parts find its lines by.
 
+pub mod keys;
 pub mod lines;
 pub mod numbers;
 
@@ -7,6 +8,23 @@ pub mod numbers;
 pub struct Verdict {
     pub number: u32,
     pub line: u32,
+}
+
+// "Every line is key=value, in this order": the key that comes next, or the end of the text.
+pub enum Key {
+    Creol,
+    Classes,
+    Class,
+    Attrs,
+    Given,
+    Run,
+    Methods,
+    Method,
+    Params,
+    Locals,
+    Lines,
+    Code,
+    End,
 }
 
 // A value as a number within its range, or none: "its form, its range".
