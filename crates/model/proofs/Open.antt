@@ -4,6 +4,7 @@ use Rattle.model.specs.Judge
 use Rattle.model.specs.Keys
 use Rattle.model.specs.Lines
 use Rattle.model.specs.Model
+use Rattle.model.specs.Numbers
 use Rattle.code.proofs.Open.{code-open}
 
 unfoldable pub model-open : Unit {0}
@@ -12,6 +13,6 @@ unfolding code-open Automaton.freshClass Automaton.freshMethod Automaton.freshMo
     Automaton.classClosed Automaton.nextMethod Automaton.methodClosed Automaton.numbered Automaton.numberLine Automaton.creationsOf
     Automaton.isLast Automaton.mayStand Automaton.stated Automaton.blockLine Automaton.limitsOf Automaton.codeLine Automaton.valueLine
     Automaton.feed Judge.givenTo Judge.countsJudged Judge.endJudged Judge.linesJudged Judge.judged Judge.verdictOf Judge.judge
-    Keys.nameOf Keys.asked Lines.grown Lines.lines Lines.plainBytes Lines.sound Lines.content Model.runs Model.takes Model.methodOf
-    Model.bindsTo
+    Keys.nameOf Keys.asked Lines.grown Lines.lines Lines.beforeFeed Lines.lineEnd Lines.plainBytes Lines.sound Lines.content Model.runs
+    Model.takes Model.methodOf Model.bindsTo Numbers.numberIn Numbers.asNumberLine
 model-open = tt

@@ -9,15 +9,17 @@ use Rattle.whole.specs.Refusals.{brokenLine, wrongKey, wrongNumber, wrongCode, 
 use Rattle.layout.specs.Layout as Layout
 use Rattle.terms.specs.Bytes.{Text}
 use Rattle.terms.specs.declared.Limits.{Limits}
-use Rattle.terms.specs.Leaves.{decimal}
-use Rattle.terms.specs.Parsed.{got, bad, word, ended}
+use Rattle.terms.specs.Parsed.{got, bad, word}
 use Rattle.terms.specs.Trees.{trees, guardTrees}
 use Rattle.code.specs.Statements.{Code, skip, set, new, call, get, await, if, else, fi, while, od, return}
 use Rattle.code.specs.Blocks.{Shape, aReturn, isShape, Block, shapeOf, through}
 use Rattle.code.specs.Reader.{statement}
+use Rattle.model.specs.declared.Key.{Key}
+use Rattle.model.specs.declared.Key.the-variants as Key
 use Rattle.model.specs.Lines.{Line, sound, content}
-use Rattle.model.specs.Keys.{Key, creol, classes, class, attrs, given, run, methods, method, params, locals, lines, code, end, nameOf, Asked, aNumber, aCode, nothing, asked}
+use Rattle.model.specs.Keys.{nameOf, Asked, aNumber, aCode, nothing, asked}
 use Rattle.model.specs.Model.{Method, Class}
+use Rattle.model.specs.Numbers.{numberIn}
 
 -- "`creol=1`"
 abbrev pub edition : ℕ
@@ -91,7 +93,7 @@ freshModel = record { classes = 0; total = 0; creations = []; done = [] }
 
 -- nothing read yet
 unfoldable pub begin : State
-begin = record { key = creol; model = freshModel; class = freshClass; method = freshMethod }
+begin = record { key = Key.Creol; model = freshModel; class = freshClass; method = freshMethod }
 
 -- a state with one of its parts put anew, and the key that comes next
 unfoldable pub withModel : State → Key → InModel → State
@@ -113,34 +115,34 @@ inRunMethod st = eqb (st .class .run) 1 && eqb (length (st .class .done)) 0
 
 -- the range of each number: its low end, and its high end. "Class 0 has given 0 and run 1."
 unfoldable pub lowest : Key → State → ℕ
-lowest creol st = edition
-lowest classes st = 1
-lowest class st = length (st .model .done)
-lowest attrs st = 0
-lowest given st = 0
-lowest run st = elim (inFirstClass st) [ true ↦ 1 | false ↦ 0 ]
-lowest methods st = st .class .run
-lowest method st = length (st .class .done)
-lowest params st = 0
-lowest locals st = st .method .params
-lowest lines st = 1
-lowest code st = 0
-lowest end st = 0
+lowest Key.Creol st = edition
+lowest Key.Classes st = 1
+lowest Key.Class st = length (st .model .done)
+lowest Key.Attrs st = 0
+lowest Key.Given st = 0
+lowest Key.Run st = elim (inFirstClass st) [ true ↦ 1 | false ↦ 0 ]
+lowest Key.Methods st = st .class .run
+lowest Key.Method st = length (st .class .done)
+lowest Key.Params st = 0
+lowest Key.Locals st = st .method .params
+lowest Key.Lines st = 1
+lowest Key.Code st = 0
+lowest Key.End st = 0
 
 unfoldable pub highest : Key → State → ℕ
-highest creol st = edition
-highest classes st = mostClasses
-highest class st = length (st .model .done)
-highest attrs st = Layout.attributes
-highest given st = elim (inFirstClass st) [ true ↦ 0 | false ↦ st .class .attrs ]
-highest run st = 1
-highest methods st = mostMethods
-highest method st = length (st .class .done)
-highest params st = elim (inRunMethod st) [ true ↦ 0 | false ↦ mostParams ]
-highest locals st = Layout.locals
-highest lines st = min mostLines (allLines - st .model .total)
-highest code st = 0
-highest end st = 0
+highest Key.Creol st = edition
+highest Key.Classes st = mostClasses
+highest Key.Class st = length (st .model .done)
+highest Key.Attrs st = Layout.attributes
+highest Key.Given st = elim (inFirstClass st) [ true ↦ 0 | false ↦ st .class .attrs ]
+highest Key.Run st = 1
+highest Key.Methods st = mostMethods
+highest Key.Method st = length (st .class .done)
+highest Key.Params st = elim (inRunMethod st) [ true ↦ 0 | false ↦ mostParams ]
+highest Key.Locals st = Layout.locals
+highest Key.Lines st = min mostLines (allLines - st .model .total)
+highest Key.Code st = 0
+highest Key.End st = 0
 
 -- the class being read is whole: it joins the model, and the next class comes, or the end
 unfoldable pub classClosed : State → State
@@ -149,12 +151,12 @@ classClosed st =
     let c = st .class in
     let done = m .done ++ (record { attrs = c .attrs; given = c .given; run = c .run; methods = c .done } ∷ []) in
     let closed : InModel = record { classes = m .classes; total = m .total; creations = m .creations; done = done } in
-    elim (ltb (length done) (m .classes)) [ true ↦ withModel st class closed | false ↦ withModel st end closed ]
+    elim (ltb (length done) (m .classes)) [ true ↦ withModel st Key.Class closed | false ↦ withModel st Key.End closed ]
 
 -- after `methods=` and after each method: the next method comes, or the class is whole
 unfoldable pub nextMethod : State → State
 nextMethod st = elim (ltb (length (st .class .done)) (st .class .methods)) [
-  | true ↦ withClass st method (st .class)
+  | true ↦ withClass st Key.Method (st .class)
   | false ↦ classClosed st
 ]
 
@@ -164,44 +166,44 @@ methodClosed st =
     let c = st .class in
     let m = st .method in
     let done = c .done ++ (record { params = m .params; locals = m .locals; code = m .done } ∷ []) in
-    nextMethod (withClass st method (record { attrs = c .attrs; given = c .given; run = c .run; methods = c .methods; done = done }))
+    nextMethod (withClass st Key.Method (record { attrs = c .attrs; given = c .given; run = c .run; methods = c .methods; done = done }))
 
 -- what a number makes of the state
 unfoldable pub numbered : Key → State → ℕ → State
-numbered creol st n = withModel st classes (st .model)
-numbered classes st n =
+numbered Key.Creol st n = withModel st Key.Classes (st .model)
+numbered Key.Classes st n =
     let m = st .model in
-    withModel st class (record { classes = n; total = m .total; creations = m .creations; done = m .done })
-numbered class st n = withClass st attrs freshClass
-numbered attrs st n = withClass st given (record { attrs = n; given = 0; run = 0; methods = 0; done = [] })
-numbered given st n = withClass st run (record { attrs = st .class .attrs; given = n; run = 0; methods = 0; done = [] })
-numbered run st n =
+    withModel st Key.Class (record { classes = n; total = m .total; creations = m .creations; done = m .done })
+numbered Key.Class st n = withClass st Key.Attrs freshClass
+numbered Key.Attrs st n = withClass st Key.Given (record { attrs = n; given = 0; run = 0; methods = 0; done = [] })
+numbered Key.Given st n = withClass st Key.Run (record { attrs = st .class .attrs; given = n; run = 0; methods = 0; done = [] })
+numbered Key.Run st n =
     let c = st .class in
-    withClass st methods (record { attrs = c .attrs; given = c .given; run = n; methods = 0; done = [] })
-numbered methods st n =
+    withClass st Key.Methods (record { attrs = c .attrs; given = c .given; run = n; methods = 0; done = [] })
+numbered Key.Methods st n =
     let c = st .class in
-    nextMethod (withClass st method (record { attrs = c .attrs; given = c .given; run = c .run; methods = n; done = [] }))
-numbered method st n = withMethod st params freshMethod
-numbered params st n = withMethod st locals (record { params = n; locals = 0; lines = 0; blocks = []; done = [] })
-numbered locals st n = withMethod st lines (record { params = st .method .params; locals = n; lines = 0; blocks = []; done = [] })
-numbered lines st n =
+    nextMethod (withClass st Key.Method (record { attrs = c .attrs; given = c .given; run = c .run; methods = n; done = [] }))
+numbered Key.Method st n = withMethod st Key.Params freshMethod
+numbered Key.Params st n = withMethod st Key.Locals (record { params = n; locals = 0; lines = 0; blocks = []; done = [] })
+numbered Key.Locals st n = withMethod st Key.Lines (record { params = st .method .params; locals = n; lines = 0; blocks = []; done = [] })
+numbered Key.Lines st n =
     let m = st .model in
     let o = st .method in
     let counted : InModel = record { classes = m .classes; total = m .total + n; creations = m .creations; done = m .done } in
-    withMethod (withModel st code counted) code (record { params = o .params; locals = o .locals; lines = n; blocks = []; done = [] })
-numbered code st n = st
-numbered end st n = st
+    withMethod (withModel st Key.Code counted) Key.Code (record { params = o .params; locals = o .locals; lines = n; blocks = []; done = [] })
+numbered Key.Code st n = st
+numbered Key.End st n = st
 
 -- what a line makes of a state: the number of its refusal, or the next state
 pub data Fed : Type 0 where
   refused : ℕ → Fed
   fed : State → Fed
 
--- "A decimal has no leading zero, except 0 itself.": the whole value, in its range
+-- "a number outside code: its form, its range, or the 512"
 unfoldable pub numberLine : State → Text → Fed
-numberLine st value = elim (ended value (decimal (highest (st .key) st) value 0)) [
-  | got at n ↦ elim (leb (lowest (st .key) st) n) [ true ↦ fed (numbered (st .key) st n) | false ↦ refused wrongNumber ]
-  | bad at ↦ refused wrongNumber
+numberLine st value = elim (numberIn (lowest (st .key) st) (highest (st .key) st) value) [
+  | some n ↦ fed (numbered (st .key) st n)
+  | none ↦ refused wrongNumber
 ]
 
 -- the `new`s of a line
@@ -239,7 +241,7 @@ stated at st c open-blocks =
     record { classes = m .classes; total = m .total; creations = m .creations ++ creationsOf at c; done = m .done } in
     let longer : InMethod =
     record { params = o .params; locals = o .locals; lines = o .lines; blocks = open-blocks; done = o .done ++ (c ∷ []) } in
-    let after = withMethod (withModel st code counted) code longer in
+    let after = withMethod (withModel st Key.Code counted) Key.Code longer in
     elim (isLast st) [ true ↦ methodClosed after | false ↦ after ]
 
 unfoldable pub blockLine : ℕ → State → Code → Fed

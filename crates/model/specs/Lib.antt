@@ -4,3 +4,4 @@ pub mod Judge
 pub mod Keys
 pub mod Lines
 pub mod Model
+pub mod Numbers

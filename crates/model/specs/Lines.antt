@@ -1,9 +1,9 @@
 -- "At most 32,768 bytes; lines of at most 120 bytes from 32 to 126, each ended by LF." Assumes nothing.
-use Prim.Native.Nat.{ℕ}
+use Prim.Native.Nat.{ℕ, suc, _+_}
 use mathlib.Core.Bool.{Bool, true, false, _&&_}
 use mathlib.Core.List.{List, [], _∷_}
 use lib.Dec.{leb, eqb}
-use lib.ListN.{length}
+use lib.ListN.{length, drop}
 use Rattle.terms.specs.Bytes.{Text}
 
 -- "At most 32,768 bytes"
@@ -32,6 +32,15 @@ grown b (unended l ∷ ls) = unended (b ∷ l) ∷ ls
 unfoldable pub lines : Text → List Line
 lines [] = []
 lines (b ∷ s) = elim (eqb b lineFeed) [ true ↦ whole [] ∷ lines s | false ↦ grown b (lines s) ]
+
+-- how many bytes stand before the first LF, or before the end
+unfoldable pub beforeFeed : Text → ℕ
+beforeFeed [] = 0
+beforeFeed (b ∷ s) = elim (eqb b lineFeed) [ true ↦ 0 | false ↦ suc (beforeFeed s) ]
+
+-- the place of the first LF from a place on, or the end of the text; a place past the end is its own
+unfoldable pub lineEnd : Text → ℕ → ℕ
+lineEnd s at = at + beforeFeed (drop at s)
 
 -- "bytes from 32 to 126"
 unfoldable pub plainBytes : Text → Bool
