@@ -1,9 +1,10 @@
 -- How the lines of a method open and close blocks. Assumes nothing.
 use Prim.Native.Nat.{ℕ}
 use mathlib.Core.Bool.{Bool, true, false}
-use mathlib.Core.List.{List, [], _∷_}
+use mathlib.Core.List.{List, [], _∷_, map}
 use mathlib.Core.Option.{Option, none, some}
 use lib.Dec.{eqb}
+use lib.ListN.{getD}
 use Rattle.code.specs.declared.Shape.{Shape}
 use Rattle.code.specs.declared.Shape.the-variants as Shape
 use Rattle.code.specs.Statements.{Statement, skip, set, new, call, get, await, if, else, fi, while, od, return}
@@ -33,6 +34,16 @@ shapeNumber Shape.Od = 4
 shapeNumber Shape.Return = 5
 shapeNumber Shape.Await = 6
 shapeNumber Shape.Plain = 7
+
+-- the shape of a number, as a method's lines are handed to the code; a number of no shape is a plain line
+abbrev pub inOrder : List Shape
+inOrder = Shape.If ∷ Shape.Else ∷ Shape.Fi ∷ Shape.While ∷ Shape.Od ∷ Shape.Return ∷ Shape.Await ∷ []
+
+unfoldable pub shapeAt : ℕ → Shape
+shapeAt n = getD inOrder n Shape.Plain
+
+unfoldable pub shapesIn : List ℕ → List Shape
+shapesIn = map shapeAt
 
 unfoldable pub isShape : Shape → Shape → Bool
 isShape l m = eqb (shapeNumber l) (shapeNumber m)

@@ -1,5 +1,6 @@
 -- What a code value is, how it is read, and how blocks match.
 pub mod Blocks
+pub mod Counting
 pub mod Partners
 pub mod Reader
 pub mod Statements
