@@ -17,22 +17,62 @@ use Rattle.code.specs.Counting.{present, counted, onward, backward}
 use Rattle.code.specs.Partners.{sameBlock, fits, linesBetween, partners, firstFrom, lastBelow, orEnd, ahead}
 use Rattle.code.proofs.Stacks.{no-some, with-append, all-nil, all-mid, all-with, all-append, all-split, all-below}
 
--- the count after a line, by what the line enters
+falls : (n : ℕ) → counted true false (suc n) ≡ some n
+unfolding counted
+falls n = refl
+
+-- the count after a line that leaves a block or not and enters one or not
+module _ (exits enters : Bool) (n : ℕ) where
+  pub counted-out : exits ≡ true → n ≡ 0 → counted exits enters n ≡ none
+  counted-out e z = rw (e, z) (go enters)
+    where
+      go : (b : Bool) → counted true b 0 ≡ none
+      go true = unfold counted in refl
+      go false = unfold counted in refl
+
+  pub counted-across : exits ≡ true → enters ≡ true → (n ≡ 0 → ⊥) → counted exits enters n ≡ some n
+  counted-across e f z = rw (e, f) (go n z)
+    where
+      go : (m : ℕ) → (m ≡ 0 → ⊥) → counted true true m ≡ some m
+      go zero z = absurd (z refl)
+      go (suc m) z = unfold counted in ap some (add-one m)
+
+  pub counted-down : exits ≡ true → enters ≡ false → (n ≡ 0 → ⊥) → counted exits enters n ≡ some (n - 1)
+  counted-down e f z = rw (e, f) (go n z)
+    where
+      go : (m : ℕ) → (m ≡ 0 → ⊥) → counted true false m ≡ some (m - 1)
+      go zero z = absurd (z refl)
+      go (suc m) z = let d : m ≡ suc m - 1 = omega arith in falls m ∙ ap some d
+
+  pub counted-up : exits ≡ false → enters ≡ true → counted exits enters n ≡ some (n + 1)
+  counted-up e f = rw (e, f) (unfold counted in refl)
+
+  pub counted-level : exits ≡ false → enters ≡ false → counted exits enters n ≡ some n
+  counted-level e f = rw (e, f) (unfold counted in refl)
+
+-- by what a shape closes and opens
+module _ (l m : Shape) (n : ℕ) (a b : Bool) (same : m ≡ l) where
+  pub counted-onward : a ≡ present (closing m) → b ≡ present (opening m) → counted a b n ≡ onward l n
+  unfolding onward
+  counted-onward e f = cc
+
+  pub counted-backward : a ≡ present (opening m) → b ≡ present (closing m) → counted a b n ≡ backward l n
+  unfolding backward
+  counted-backward e f = cc
+
+-- the same over a stack
 module _ (bs : List Block) where
   counted-stays : (e : Option Block) → counted false (present e) (length bs) ≡ some (length (with e bs))
-  unfolding counted present with
-  counted-stays none = refl
-  counted-stays (some b) = ap some (add-one (length bs))
+  unfolding present with
+  counted-stays none = counted-level false false (length bs) refl refl
+  counted-stays (some b) = counted-up false true (length bs) refl refl ∙ ap some (add-one (length bs))
 
   counted-falls : (e : Option Block) → counted true (present e) (suc (length bs)) ≡ some (length (with e bs))
-  unfolding counted present with
-  counted-falls none = refl
-  counted-falls (some b) = ap some (add-one (length bs))
-
-counted-leaves : (e : Option Block) → counted true (present e) 0 ≡ none
-unfolding counted present
-counted-leaves none = refl
-counted-leaves (some b) = refl
+  unfolding present with
+  counted-falls none =
+      let d : suc (length bs) - 1 ≡ length bs = omega arith in
+      counted-down true false (suc (length bs)) refl refl (λ z. omega arith) ∙ ap some d
+  counted-falls (some b) = counted-across true true (suc (length bs)) refl refl (λ z. omega arith)
 
 -- a line met over the blocks bs, which lie above the block counted from: it leaves that block, or it goes on above it
 data Meets (o e : Option Block) (b : Block) (outer bs mid : List Block) : Type 0 where
@@ -43,8 +83,11 @@ data Meets (o e : Option Block) (b : Block) (outer bs mid : List Block) : Type 0
 meets : (o e : Option Block) (b : Block) (outer bs mid : List Block) → bs ++ (b ∷ outer) ≡ with o mid → Meets o e b outer bs mid
 unfolding with present
 meets none e b outer bs mid h = goes bs refl (sym h) (counted-stays bs e)
-meets (some c) e b outer [] mid h = leaves refl (cc) (counted-leaves e)
+meets (some c) e b outer [] mid h = leaves refl (cc) (counted-out true (present e) 0 refl refl)
 meets (some c) e b outer (d ∷ ds) mid h = goes ds (cc) (cc) (counted-falls ds e)
+
+false-true : false ≡ true → ⊥
+false-true e = let z : _≡_ {A = ℕ} 0 1 = cc in omega arith
 
 -- lines whose blocks are all closed, and lines that leave one open
 balanced-yes : (ls : List Shape) → throughAll ls [] ≡ some [] → balanced ls ≡ true
@@ -54,6 +97,23 @@ balanced-yes ls e = rw e (unfold allClosed in refl)
 balanced-no : (ls : List Shape) (b : Block) (bs : List Block) → throughAll ls [] ≡ some (b ∷ bs) → balanced ls ≡ false
 unfolding balanced
 balanced-no ls b bs e = rw e (unfold allClosed in refl)
+
+pub balanced-closed : (ls : List Shape) → balanced ls ≡ true → throughAll ls [] ≡ some []
+unfolding balanced allClosed
+balanced-closed ls e = closed (throughAll ls []) e
+  where
+    closed : (o : Option (List Block)) → allClosed o ≡ true → o ≡ some []
+    closed none e = absurd (false-true e)
+    closed (some []) e = refl
+    closed (some (b ∷ bs)) e = absurd (false-true e)
+
+-- lines that close a block which was open before them are not balanced
+not-balanced : (ls : List Shape) (b : Block) (bs : List Block) → throughAll ls (b ∷ bs) ≡ some [] → balanced ls ≡ false
+not-balanced ls b bs e = go (balanced ls) refl
+  where
+    go : (t : Bool) → balanced ls ≡ t → t ≡ false
+    go true f = let g = all-below ls [] [] (b ∷ bs) (balanced-closed ls f) in absurd (let z : _≡_ {A = ℕ} 0 1 = cc in omega arith)
+    go false f = refl
 
 -- one line fits another, or it opens nothing, or the other closes nothing
 module _ (l m : Shape) where
@@ -140,7 +200,7 @@ at-line ls i w h =
     let t = all-mid (getD ls i Shape.Plain) (drop (suc i) ls) (s .0) [] (s .2) in
     (t .0, s .1 ∙ ap some (t .1), t .2)
 
-same-some : (m n : ℕ) → some m ≡ some n → m ≡ n
+same-some : {A : Type 0} (m n : A) → some m ≡ some n → m ≡ n
 same-some m n e = cc
 
 -- blocks above another are not none
@@ -253,3 +313,104 @@ module _ (ls : List Shape) (i : ℕ) where
                     ∙ ap (λ t. firstFrom (partners ls i) t j) more-left
                     ∙ first-no (partners ls i) _ j (no-partner ds (closing l) refl with-inner);
               }
+
+-- the search back from line i, above line j, with the count n: its mirror, where what a line opens is left
+pub record Backward (ls : List Shape) (i j n : ℕ) : Type 0 where
+  pub block : Block
+  pub outer : List Block
+  pub inner : List Block
+  pub closes : closing (getD ls i Shape.Plain) ≡ some block
+  pub count : n ≡ length inner
+  pub passed : throughAll (span j i ls) inner ≡ some []
+  pub rest : throughAll (take j ls) [] ≡ some (inner ++ (block ∷ outer))
+  pub search : lastBelow (λ k. partners ls k i) i ≡ lastBelow (λ k. partners ls k i) j
+
+module _ (ls : List Shape) (i : ℕ) where
+  pub backward-begins : (b : Block) → throughAll ls [] ≡ some [] → i < length ls → closing (getD ls i Shape.Plain) ≡ some b → Backward ls i i 0
+  backward-begins b w h e =
+      let s = at-line ls i w h in
+      let f : throughAll (take i ls) [] ≡ some (b ∷ s .0) = unfold with in rw e at (s .1) in
+      record {
+        block = b;
+        outer = s .0;
+        inner = [];
+        closes = e;
+        count = refl;
+        passed = ap (λ l. throughAll l []) (span-none i ls) ∙ all-nil [];
+        rest = f;
+        search = refl;
+      }
+
+  -- the lines cannot begin after the partner
+  pub backward-ends : (n : ℕ) → Backward ls i 0 n → ⊥
+  backward-ends n s = not-closed (s .inner) (s .block) (s .outer) (sym (s .rest) ∙ all-nil [])
+
+  module _ (j n : ℕ) (s : Backward ls i (suc j) n) (before : j < i) (within : i < length ls) where
+    inside : j < length ls
+    inside = omega arith
+
+    backward-meets : (mid : List Block)
+        × Meets (opening (getD ls j Shape.Plain)) (closing (getD ls j Shape.Plain)) (s .block) (s .outer) (s .inner) mid
+        × (throughAll (take j ls) [] ≡ some (with (closing (getD ls j Shape.Plain)) mid))
+    backward-meets =
+        let l = getD ls j Shape.Plain in
+        let below = s .inner ++ (s .block ∷ s .outer) in
+        let r = all-split (take j ls) (l ∷ []) [] below (ap (λ t. throughAll t []) (sym (take-suc ls j Shape.Plain inside)) ∙ s .rest) in
+        let t = all-mid l [] (r .0) below (r .2) in
+        let f : below ≡ with (opening l) (t .0) = same-some _ _ (sym (t .2) ∙ all-nil (with (opening l) (t .0))) in
+        (t .0, meets _ _ (s .block) (s .outer) (s .inner) (t .0) f, r .1 ∙ ap some (t .1))
+
+    backward-counted : backward (getD ls j Shape.Plain) n
+        ≡ counted (present (opening (getD ls j Shape.Plain))) (present (closing (getD ls j Shape.Plain))) (length (s .inner))
+    unfolding backward
+    backward-counted = ap (counted _ _) (s .count)
+
+    back-some : lastBelow (λ k. partners ls k i) i ≡ some j → orEnd ls (lastBelow (λ k. partners ls k i) i) ≡ j
+    unfolding orEnd
+    back-some e = ap (orEnd ls) e
+
+    -- the line that opened the block is the partner
+    pub backward-met : backward (getD ls j Shape.Plain) n ≡ none → orEnd ls (lastBelow (λ k. partners ls k i) i) ≡ j
+    backward-met e = go (backward-meets .0) (backward-meets .1)
+      where
+        go : (mid : List Block) → Meets (opening (getD ls j Shape.Plain)) (closing (getD ls j Shape.Plain)) (s .block) (s .outer) (s .inner) mid
+            → orEnd ls (lastBelow (λ k. partners ls k i) i) ≡ j
+        go mid (leaves none-inner opens c) =
+            let b = balanced-yes (linesBetween ls j i) (ap (λ l. throughAll l []) (between-span ls j i) ∙ ap (throughAll (span (suc j) i ls)) (sym none-inner) ∙ s .passed) in
+            let p = partners-yes ls j i (fits-same _ _ (s .block) opens (s .closes)) b in
+            back-some (s .search ∙ last-yes (λ k. partners ls k i) j p)
+        go mid (goes ds with-inner is-mid c) = absurd (no-some _ (sym e ∙ backward-counted ∙ c))
+
+    -- a line within leaves the search with its new count
+    pub backward-goes : (m : ℕ) → backward (getD ls j Shape.Plain) n ≡ some m → Backward ls i j m
+    backward-goes m e = go (backward-meets .0) (backward-meets .1) (backward-meets .2)
+      where
+        -- it opens nothing, or a block that is closed before line i
+        no-partner : (ds : List Block) (o : Option Block) → opening (getD ls j Shape.Plain) ≡ o → s .inner ≡ with o ds → partners ls j i ≡ false
+        no-partner ds none c w = partners-unfit ls j i (fits-open _ _ c)
+        no-partner ds (some b) c w =
+            let v : s .inner ≡ b ∷ ds = unfold with in w in
+            let p = ap (λ l. throughAll l (b ∷ ds)) (between-span ls j i) ∙ ap (throughAll (span (suc j) i ls)) (sym v) ∙ s .passed in
+            partners-open ls j i (not-balanced _ b ds p)
+
+        go : (mid : List Block) → Meets (opening (getD ls j Shape.Plain)) (closing (getD ls j Shape.Plain)) (s .block) (s .outer) (s .inner) mid
+            → throughAll (take j ls) [] ≡ some (with (closing (getD ls j Shape.Plain)) mid) → Backward ls i j m
+        go mid (leaves none-inner opens c) rest = absurd (no-some m (sym c ∙ sym backward-counted ∙ e))
+        go mid (goes ds with-inner is-mid c) rest =
+            let l = getD ls j Shape.Plain in
+            record {
+              block = s .block;
+              outer = s .outer;
+              inner = with (closing l) ds;
+              closes = s .closes;
+              count = same-some _ _ (sym e ∙ backward-counted ∙ c);
+              passed =
+                  ap (λ t. throughAll t (with (closing l) ds)) (span-cons j i ls before inside)
+                  ∙ all-with l (span (suc j) i ls) ds
+                  ∙ ap (throughAll (span (suc j) i ls)) (sym with-inner)
+                  ∙ s .passed;
+              rest =
+                  rest ∙ ap some (ap (with (closing l)) is-mid ∙ sym (with-append (closing l) ds (s .block ∷ s .outer)));
+              search =
+                  s .search ∙ last-no (λ k. partners ls k i) j (no-partner ds (opening l) refl with-inner);
+            }
