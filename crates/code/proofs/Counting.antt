@@ -14,8 +14,11 @@ use Rattle.code.specs.declared.Shape.{Shape}
 use Rattle.code.specs.declared.Shape.the-variants as Shape
 use Rattle.code.specs.Blocks.{Block, rank, opening, closing, with, throughAll, allClosed, balanced}
 use Rattle.code.specs.Counting.{present, counted, onward, backward}
-use Rattle.code.specs.Partners.{sameBlock, fits, linesBetween, partners, firstFrom, lastBelow, orEnd, ahead}
+use Rattle.code.specs.Partners.{sameBlock, fits, linesBetween, partners, firstFrom, lastBelow, orEnd, ahead, behind}
 use Rattle.code.proofs.Stacks.{no-some, with-append, all-nil, all-mid, all-with, all-append, all-split, all-below}
+
+false-true : false ≡ true → ⊥
+false-true e = let z : _≡_ {A = ℕ} 0 1 = cc in omega arith
 
 falls : (n : ℕ) → counted true false (suc n) ≡ some n
 unfolding counted
@@ -49,6 +52,22 @@ module _ (exits enters : Bool) (n : ℕ) where
 
   pub counted-level : exits ≡ false → enters ≡ false → counted exits enters n ≡ some n
   counted-level e f = rw (e, f) (unfold counted in refl)
+
+-- a line adds at most one
+pub counted-most : (exits enters : Bool) (n m : ℕ) → counted exits enters n ≡ some m → m ≤ n + 1
+unfolding counted
+counted-most false false n m e = let f : n ≡ m = cc in omega arith
+counted-most false true n m e = let f : n + 1 ≡ m = cc in omega arith
+counted-most true false zero m e = absurd (no-some m e)
+counted-most true true zero m e = absurd (no-some m e)
+counted-most true false (suc n) m e = let f : n ≡ m = cc in omega arith
+counted-most true true (suc n) m e = let f : n + 1 ≡ m = cc in omega arith
+
+-- a block that is there
+pub present-some : (o : Option Block) → present o ≡ true → (b : Block) × (o ≡ some b)
+unfolding present
+present-some none e = absurd (false-true e)
+present-some (some b) e = (b, refl)
 
 -- by what a shape closes and opens
 module _ (l m : Shape) (n : ℕ) (a b : Bool) (same : m ≡ l) where
@@ -85,9 +104,6 @@ unfolding with present
 meets none e b outer bs mid h = goes bs refl (sym h) (counted-stays bs e)
 meets (some c) e b outer [] mid h = leaves refl (cc) (counted-out true (present e) 0 refl refl)
 meets (some c) e b outer (d ∷ ds) mid h = goes ds (cc) (cc) (counted-falls ds e)
-
-false-true : false ≡ true → ⊥
-false-true e = let z : _≡_ {A = ℕ} 0 1 = cc in omega arith
 
 -- lines whose blocks are all closed, and lines that leave one open
 balanced-yes : (ls : List Shape) → throughAll ls [] ≡ some [] → balanced ls ≡ true
@@ -365,16 +381,16 @@ module _ (ls : List Shape) (i : ℕ) where
     unfolding backward
     backward-counted = ap (counted _ _) (s .count)
 
-    back-some : lastBelow (λ k. partners ls k i) i ≡ some j → orEnd ls (lastBelow (λ k. partners ls k i) i) ≡ j
-    unfolding orEnd
+    back-some : lastBelow (λ k. partners ls k i) i ≡ some j → behind ls i ≡ j
+    unfolding behind orEnd
     back-some e = ap (orEnd ls) e
 
     -- the line that opened the block is the partner
-    pub backward-met : backward (getD ls j Shape.Plain) n ≡ none → orEnd ls (lastBelow (λ k. partners ls k i) i) ≡ j
+    pub backward-met : backward (getD ls j Shape.Plain) n ≡ none → behind ls i ≡ j
     backward-met e = go (backward-meets .0) (backward-meets .1)
       where
         go : (mid : List Block) → Meets (opening (getD ls j Shape.Plain)) (closing (getD ls j Shape.Plain)) (s .block) (s .outer) (s .inner) mid
-            → orEnd ls (lastBelow (λ k. partners ls k i) i) ≡ j
+            → behind ls i ≡ j
         go mid (leaves none-inner opens c) =
             let b = balanced-yes (linesBetween ls j i) (ap (λ l. throughAll l []) (between-span ls j i) ∙ ap (throughAll (span (suc j) i ls)) (sym none-inner) ∙ s .passed) in
             let p = partners-yes ls j i (fits-same _ _ (s .block) opens (s .closes)) b in

@@ -1,6 +1,7 @@
 -- The laws of the grammar of code values, and what the proofs above cite.
 mod Cases
 pub mod Counting
+pub mod Going
 pub mod Open
 pub mod Respect
 pub mod Shapes

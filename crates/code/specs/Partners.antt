@@ -45,13 +45,17 @@ orEnd ls (some j) = j
 unfoldable pub ahead : List Shape → ℕ → ℕ
 ahead ls i = orEnd ls (firstFrom (partners ls i) (length ls) (i + 1))
 
+-- the partner of a line that closes a block
+unfoldable pub behind : List Shape → ℕ → ℕ
+behind ls i = orEnd ls (lastBelow (λ j. partners ls j i) i)
+
 -- the line that a line goes to: "`if` false goes to the line after its `else`; `else` goes to the line after its `fi`; `while` false to the
 -- line after its `od`; `od` back to its `while`"
 unfoldable pub goesFrom : Shape → List Shape → ℕ → ℕ
 goesFrom Shape.If ls i = ahead ls i + 1
 goesFrom Shape.Else ls i = ahead ls i + 1
 goesFrom Shape.While ls i = ahead ls i + 1
-goesFrom Shape.Od ls i = orEnd ls (lastBelow (λ j. partners ls j i) i)
+goesFrom Shape.Od ls i = behind ls i
 goesFrom Shape.Fi ls i = i + 1
 goesFrom Shape.Return ls i = i
 goesFrom Shape.Await ls i = i + 1

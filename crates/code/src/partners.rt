@@ -5,7 +5,7 @@ ghost use mathlib.Core.Bool.{true};
 ghost use mathlib.Core.List.{[]};
 ghost use mathlib.Core.Option.{some};
 ghost use mathlib.Core.Path.{_≡_};
-ghost use Prim.Native.Nat.{_<_, _^_};
+ghost use Prim.Native.Nat.{_+_, _<_, _^_};
 ghost use lib.ListN.{length, getD};
 ghost use Rattle.whole.specs.Whole as Whole;
 ghost use Rattle.code.specs.Blocks as Blocks;
@@ -84,4 +84,56 @@ fn backward(line: u8, count: usize) -> Natural
 {
     let shape = shape_at(line);
     counted(opens(shape), closes(shape), count)
+}
+
+// The line after the partner of a line that opens a block.
+fn past_partner(lines: &[u8], i: usize) -> usize
+    requires { ⌜ i < length (now lines) ⌝ }
+    requires { ⌜ Blocks.throughAll (Blocks.shapesIn (now lines)) [] ≡ some [] ⌝ }
+    requires { ⌜ Counting.present (Blocks.opening (Blocks.shapeAt (getD (now lines) i 0))) ≡ true ⌝ }
+    ensures { λ r. ⌜ r ≡ Partners.ahead (Blocks.shapesIn (now (lines .entry))) i + 1 ⌝ }
+{
+    let mut count: usize = 0;
+    let mut j = i + 1;
+    while j < lines.len() {
+        match onward(lines[j], count) {
+            Natural::Not => return j + 1,
+            Natural::Is(n) => count = n,
+        }
+        j += 1;
+    }
+    j
+}
+
+// The partner of a line that closes a block.
+fn partner_before(lines: &[u8], i: usize) -> usize
+    requires { ⌜ i < length (now lines) ⌝ }
+    requires { ⌜ Blocks.throughAll (Blocks.shapesIn (now lines)) [] ≡ some [] ⌝ }
+    requires { ⌜ Counting.present (Blocks.closing (Blocks.shapeAt (getD (now lines) i 0))) ≡ true ⌝ }
+    ensures { λ r. ⌜ r ≡ Partners.behind (Blocks.shapesIn (now (lines .entry))) i ⌝ }
+{
+    let mut count: usize = 0;
+    let mut j = i;
+    while j > 0 {
+        j -= 1;
+        match backward(lines[j], count) {
+            Natural::Not => return j,
+            Natural::Is(n) => count = n,
+        }
+    }
+    j
+}
+
+// The line that a line of a whole method goes to, by the numbers of its lines' shapes.
+pub fn goes_to(lines: &[u8], i: usize) -> usize
+    requires { ⌜ i < length (now lines) ⌝ }
+    requires { ⌜ Blocks.throughAll (Blocks.shapesIn (now lines)) [] ≡ some [] ⌝ }
+    ensures { λ r. ⌜ r ≡ Partners.goesTo (Blocks.shapesIn (now (lines .entry))) i ⌝ }
+{
+    match shape_at(lines[i]) {
+        Shape::If | Shape::Else | Shape::While => past_partner(lines, i),
+        Shape::Od => partner_before(lines, i),
+        Shape::Return => i,
+        _ => i + 1,
+    }
 }
