@@ -1,5 +1,6 @@
 -- A proof that computes with the definitions of this crate and of all below it says `unfolding code-open`. Assumes nothing.
 use Rattle.code.specs.Blocks
+use Rattle.code.specs.Counting
 use Rattle.code.specs.Partners
 use Rattle.code.specs.Reader
 use Rattle.code.specs.Statements
@@ -7,7 +8,7 @@ use Rattle.terms.proofs.Open.{terms-open}
 
 unfoldable pub code-open : Unit {0}
 unfolding terms-open Blocks.shapeOf Blocks.shapeNumber Blocks.shapeAt Blocks.shapesIn Blocks.isShape Blocks.rank Blocks.closing Blocks.opening Blocks.without
-    Blocks.with Blocks.through Blocks.throughAll Blocks.allClosed Blocks.balanced Partners.sameBlock Partners.fits
+    Blocks.with Blocks.through Blocks.throughAll Blocks.allClosed Blocks.balanced Counting.present Counting.counted Counting.onward Counting.backward Partners.sameBlock Partners.fits
     Partners.linesBetween Partners.partners Partners.firstFrom Partners.lastBelow Partners.orEnd Partners.ahead Partners.behind Partners.goesFrom
     Partners.goesTo Reader.wordOf Reader.beginning Reader.formOf Reader.comma Reader.operand Reader.listed Reader.arguments
     Reader.target Reader.rest Reader.statement Statements.mapStatement

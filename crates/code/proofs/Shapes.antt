@@ -1,6 +1,6 @@
 -- Shapes and their numbers, by which the code tells them apart. Assumes nothing.
 use Prim.Native.Nat.{ℕ, zero, suc, _≤_, _<_}
-use mathlib.Core.List.{List, [], _∷_}
+use mathlib.Core.List.{List, [], _∷_, map}
 use mathlib.Core.Logic.{inl, inr}
 use mathlib.Core.Path.{_≡_, refl, sym, ap, subst, _∙_}
 use native.Mathlib.Omega.{arith}
@@ -23,6 +23,12 @@ shape-of-number Shape.Od = refl
 shape-of-number Shape.Return = refl
 shape-of-number Shape.Await = refl
 shape-of-number Shape.Plain = refl
+
+-- lines are told by the numbers of their shapes
+pub shapes-of-numbers : (ls : List Shape) → shapesIn (map shapeNumber ls) ≡ ls
+unfolding shapesIn
+shapes-of-numbers [] = refl
+shapes-of-numbers (l ∷ ls) = ap (_∷ map shapeAt (map shapeNumber ls)) (shape-of-number l) ∙ ap (l ∷_) (shapes-of-numbers ls)
 
 -- the code tells a shape by its number
 tag-number : (s : Shape) → tagOf the-type s ≡ shapeNumber s

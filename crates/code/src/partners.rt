@@ -93,12 +93,12 @@ fn past_partner(lines: &[u8], i: usize) -> usize
     requires { ⌜ Counting.present (Blocks.opening (Blocks.shapeAt (getD (now lines) i 0))) ≡ true ⌝ }
     ensures { λ r. ⌜ r ≡ Partners.ahead (Blocks.shapesIn (now (lines .entry))) i + 1 ⌝ }
 {
-    let mut count: usize = 0;
+    let mut opened: usize = 0;
     let mut j = i + 1;
     while j < lines.len() {
-        match onward(lines[j], count) {
+        match onward(lines[j], opened) {
             Natural::Not => return j + 1,
-            Natural::Is(n) => count = n,
+            Natural::Is(n) => opened = n,
         }
         j += 1;
     }
@@ -112,13 +112,13 @@ fn partner_before(lines: &[u8], i: usize) -> usize
     requires { ⌜ Counting.present (Blocks.closing (Blocks.shapeAt (getD (now lines) i 0))) ≡ true ⌝ }
     ensures { λ r. ⌜ r ≡ Partners.behind (Blocks.shapesIn (now (lines .entry))) i ⌝ }
 {
-    let mut count: usize = 0;
+    let mut closed: usize = 0;
     let mut j = i;
     while j > 0 {
         j -= 1;
-        match backward(lines[j], count) {
+        match backward(lines[j], closed) {
             Natural::Not => return j,
-            Natural::Is(n) => count = n,
+            Natural::Is(n) => closed = n,
         }
     }
     j

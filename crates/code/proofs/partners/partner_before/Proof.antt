@@ -1,7 +1,6 @@
 -- `code::partners::partner_before` meets its contract. The invariant: the search goes back from the line, with its count. Assumes nothing.
 use Prim.Native.Nat.{_+_, _≤_}
 use borrow.Author.Needs.{needs}
-use lib.ListN.{length}
 use mathlib.Core.Path.{sym, _∙_}
 use native.Mathlib.Omega.{arith}
 use Rattle.code.specs.Blocks.{shapesIn}
@@ -11,10 +10,10 @@ use Rattle.code.proofs.partners.partner_before.Statement.{statement}
 use Rattle.code.proofs.partners.partner_before.Tie as tie
 
 abbrev Inv-loop : tie.InvT-loop
-Inv-loop lines i count₀ j₀ count j = (j ≤ i) × (count + j ≤ i) × Backward (shapesIn lines) i j count
+Inv-loop lines i closed₀ j₀ closed j = (j ≤ i) × (closed + j ≤ i) × Backward (shapesIn lines) i j closed
 
 abbrev μ-loop : tie.MeasureT-loop
-μ-loop lines i count₀ j₀ count j = j
+μ-loop lines i closed₀ j₀ closed j = j
 
 loop-holds : tie.Need-loop-holds Inv-loop μ-loop
 loop-holds c =
@@ -37,7 +36,7 @@ returns : tie.Need-returns Inv-loop μ-loop
 returns c =
     let l = c .before .before .before .before .before .loop in
     let s = c .before .before .before .before .before .before .before in
-    sym (met-backward (s .args .lines .now) (s .args .i) (l .j) (l .count) (l .inv .2) (c .before .before .before .before .loop-test .taken) (l .inv .0) (s .pre .0)
+    sym (met-backward (s .args .lines .now) (s .args .i) (l .j) (l .closed) (l .inv .2) (c .before .before .before .before .loop-test .taken) (l .inv .0) (s .pre .0)
     (sym (c .before .before .backward .ensures) ∙ c .enum-told .given .1))
 
 enum-known-n : tie.Need-enum-known-n Inv-loop μ-loop
@@ -51,14 +50,14 @@ loop-again c =
     let l = c .before .before .before .before .before .before .loop in
     let s = c .before .before .before .before .before .before .before .before in
     let e = sym (c .before .before .before .backward .ensures) ∙ c .before .n .given .1 in
-    let m = backward-most (l .count) _ _ e in
-    (omega arith, omega arith, goes-backward (s .args .lines .now) (s .args .i) (l .j) (l .count) (l .inv .2) (c .before .before .before .before .before .loop-test .taken) (l .inv .0) (s .pre .0) _ e)
+    let m = backward-most (l .closed) _ _ e in
+    (omega arith, omega arith, goes-backward (s .args .lines .now) (s .args .i) (l .j) (l .closed) (l .inv .2) (c .before .before .before .before .before .loop-test .taken) (l .inv .0) (s .pre .0) _ e)
 
 returns-2 : tie.Need-returns-2 Inv-loop μ-loop
 returns-2 c =
     let l = c .before .loop in
     let s = c .before .before .before in
-    absurd (ends-backward (s .args .lines .now) (s .args .i) (l .j) (l .count) (l .inv .2) (c .loop-test .left))
+    absurd (ends-backward (s .args .lines .now) (s .args .i) (l .j) (l .closed) (l .inv .2) (c .loop-test .left))
 
 pub partner-before-spec : {M : Type 1} → statement M
 partner-before-spec =

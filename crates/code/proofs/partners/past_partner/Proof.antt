@@ -11,10 +11,10 @@ use Rattle.code.proofs.partners.past_partner.Statement.{statement}
 use Rattle.code.proofs.partners.past_partner.Tie as tie
 
 abbrev Inv-loop : tie.InvT-loop
-Inv-loop lines i count₀ j₀ count j = (i < j) × (j ≤ length lines) × (count ≤ j) × Onward (shapesIn lines) i j count
+Inv-loop lines i opened₀ j₀ opened j = (i < j) × (j ≤ length lines) × (opened ≤ j) × Onward (shapesIn lines) i j opened
 
 abbrev μ-loop : tie.MeasureT-loop
-μ-loop lines i count₀ j₀ count j = length lines - j
+μ-loop lines i opened₀ j₀ opened j = length lines - j
 
 add-j : tie.Need-add-j Inv-loop μ-loop
 add-j c = omega arith
@@ -40,7 +40,7 @@ returns : tie.Need-returns Inv-loop μ-loop
 returns c =
     let l = c .before .before .before .before .before .loop in
     let s = c .before .before .before .before .before .before .before in
-    sym (ap (_+ 1) (met-onward (s .args .lines .now) (s .args .i) (l .j) (l .count) (l .inv .3) (c .before .before .before .before .loop-test .taken)
+    sym (ap (_+ 1) (met-onward (s .args .lines .now) (s .args .i) (l .j) (l .opened) (l .inv .3) (c .before .before .before .before .loop-test .taken)
     (sym (c .before .before .onward .ensures) ∙ c .enum-told .given .1)))
 
 enum-known-n : tie.Need-enum-known-n Inv-loop μ-loop
@@ -57,14 +57,14 @@ loop-again c =
     let l = c .before .before .before .before .before .before .loop in
     let s = c .before .before .before .before .before .before .before .before in
     let e = sym (c .before .before .before .onward .ensures) ∙ c .before .n .given .1 in
-    let m = onward-most (l .count) _ _ e in
-    (omega arith, omega arith, omega arith, goes-onward (s .args .lines .now) (s .args .i) (l .j) (l .count) (l .inv .3) (c .before .before .before .before .before .loop-test .taken) _ (l .inv .0) e)
+    let m = onward-most (l .opened) _ _ e in
+    (omega arith, omega arith, omega arith, goes-onward (s .args .lines .now) (s .args .i) (l .j) (l .opened) (l .inv .3) (c .before .before .before .before .before .loop-test .taken) _ (l .inv .0) e)
 
 returns-2 : tie.Need-returns-2 Inv-loop μ-loop
 returns-2 c =
     let l = c .before .loop in
     let s = c .before .before .before in
-    absurd (ends-onward (s .args .lines .now) (s .args .i) (l .j) (l .count) (l .inv .3) (c .loop-test .left))
+    absurd (ends-onward (s .args .lines .now) (s .args .i) (l .j) (l .opened) (l .inv .3) (c .loop-test .left))
 
 pub past-partner-spec : {M : Type 1} → statement M
 past-partner-spec =
