@@ -14,7 +14,8 @@ use Rattle.code.specs.declared.Shape.the-variants as Shape
 use Rattle.code.specs.Blocks.{shapeAt, shapesIn, opening, closing, throughAll}
 use Rattle.code.specs.Counting.{present, onward, backward}
 use Rattle.code.specs.Partners.{ahead, behind, goesFrom, goesTo}
-use Rattle.code.proofs.Counting.{present-some, counted-most, Onward, onward-begins, onward-ends, onward-met, onward-goes, Backward, backward-begins, backward-ends, backward-met, backward-goes}
+use Rattle.code.proofs.Counting.{present-some, counted-most}
+use Rattle.code.proofs.Searches.{Onward, onward-begins, onward-ends, onward-met, onward-goes, Backward, backward-begins, backward-ends, backward-met, backward-goes}
 use Rattle.code.proofs.Shapes.{shapes-length, shapes-at}
 
 -- a line adds at most one

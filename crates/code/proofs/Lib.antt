@@ -2,7 +2,9 @@
 mod Cases
 pub mod Counting
 pub mod Going
+pub mod Matching
 pub mod Open
 pub mod Respect
+pub mod Searches
 pub mod Shapes
 pub mod Stacks

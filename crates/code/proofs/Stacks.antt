@@ -15,6 +15,10 @@ use Rattle.code.specs.Blocks.{Block, untilElse, untilFi, untilOd, rank, 
 pub no-some : {A : Type 0} (a : A) → none ≡ some a → ⊥
 no-some a e = let z : _≡_ {A = ℕ} 0 1 = cc in omega arith
 
+-- no test gives both answers
+pub false-true : false ≡ true → ⊥
+false-true e = let z : _≡_ {A = ℕ} 0 1 = cc in omega arith
+
 -- a rank tells its block
 rank-tells : (b c : Block) → rank b ≡ rank c → b ≡ c
 unfolding rank

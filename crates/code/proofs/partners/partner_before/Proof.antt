@@ -4,7 +4,7 @@ use borrow.Author.Needs.{needs}
 use mathlib.Core.Path.{sym, _∙_}
 use native.Mathlib.Omega.{arith}
 use Rattle.code.specs.Blocks.{shapesIn}
-use Rattle.code.proofs.Counting.{Backward}
+use Rattle.code.proofs.Searches.{Backward}
 use Rattle.code.proofs.Going.{backward-most, begins-backward, ends-backward, met-backward, goes-backward}
 use Rattle.code.proofs.partners.partner_before.Statement.{statement}
 use Rattle.code.proofs.partners.partner_before.Tie as tie

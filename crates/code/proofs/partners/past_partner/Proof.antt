@@ -5,7 +5,7 @@ use lib.ListN.{length}
 use mathlib.Core.Path.{sym, ap, _∙_}
 use native.Mathlib.Omega.{arith}
 use Rattle.code.specs.Blocks.{shapesIn}
-use Rattle.code.proofs.Counting.{Onward}
+use Rattle.code.proofs.Searches.{Onward}
 use Rattle.code.proofs.Going.{onward-most, begins-onward, ends-onward, met-onward, goes-onward}
 use Rattle.code.proofs.partners.past_partner.Statement.{statement}
 use Rattle.code.proofs.partners.past_partner.Tie as tie
