@@ -11,7 +11,8 @@ use Rattle.whole.specs.Whole.{between, eqZ, nat}
 use Rattle.layout.specs.Layout.{Cells, size, firstCall, objectRows, callRows, attributes, locals, object, call, cellOf, read, objects, calls, ofObject, ofCall, runningLabel, attribute, stage, caller, callee, method, args, line, cleared, value, local}
 use Rattle.layout.specs.Stages.{invoked, bound, running, answered, taken, nobody, labelOf, inStage}
 use Rattle.code.specs.Statements.{Code}
-use Rattle.code.specs.Blocks.{shapeOf, isShape, aReturn, anAwait}
+use Rattle.code.specs.declared.Shape.the-variants as Shape
+use Rattle.code.specs.Blocks.{shapeOf, isShape}
 use Rattle.model.specs.Model.{Model, runs}
 use Rattle.model.specs.Automaton.{mostParams}
 use Rattle.code.specs.Reader.{lastMethod}
@@ -79,9 +80,9 @@ module _ (m : Model) (c : Cells) where
   -- a return."
   unfoldable pub lineHolds : ℕ → Code → Bool
   lineHolds l s = all (
-      whenever (is (ofCall c l cleared) 1) (stageIn l bound running && isShape anAwait (shapeOf s))
+      whenever (is (ofCall c l cleared) 1) (stageIn l bound running && isShape Shape.Await (shapeOf s))
       ∷ whenever (inStage c l bound && is (ofCall c l cleared) 0) (is (ofCall c l line) 0)
-      ∷ whenever (stageIn l answered taken) (isShape aReturn (shapeOf s))
+      ∷ whenever (stageIn l answered taken) (isShape Shape.Return (shapeOf s))
       ∷ [])
 
   -- "From stage 3 the callee's class has the method, args is its params, line is inside it, v cells from locals on are 0."

@@ -7,7 +7,8 @@ use Rattle.whole.specs.Plain.{_>>=_}
 use Rattle.whole.specs.Whole.{natural}
 use Rattle.layout.specs.Layout.{Cells, ofObject, ofCall, class, callee, method, args, line}
 use Rattle.code.specs.Statements.{Code}
-use Rattle.code.specs.Blocks.{Shape, shapeOf}
+use Rattle.code.specs.declared.Shape.{Shape}
+use Rattle.code.specs.Blocks.{shapeOf}
 use Rattle.model.specs.Model.{Model, Class, Method, bindsTo}
 
 -- an object's class

@@ -7,14 +7,15 @@ use Rattle.terms.specs.Bytes.{Text, bytes}
 use Rattle.terms.specs.declared.Limits.{Limits}
 use Rattle.terms.specs.Nothing.{nothing, guardNothing}
 use Rattle.terms.specs.Parsed.{Parsed, got, bad, mapped}
-use Rattle.code.specs.Blocks.{Shape, anIf, anElse, aFi, aWhile, anOd, aReturn, plain}
+use Rattle.code.specs.declared.Shape.{Shape}
+use Rattle.code.specs.declared.Shape.the-variants as Shape
 use Rattle.code.specs.Partners.{goesTo}
 use Rattle.code.specs.Reader.{statement}
 use Rattle.code.proofs.Open.{code-open}
 
 -- 0 while, 1 if, 2 if, 3 plain, 4 else, 5 fi, 6 else, 7 plain, 8 fi, 9 od, 10 return
 shapes : List Shape
-shapes = aWhile ∷ anIf ∷ anIf ∷ plain ∷ anElse ∷ aFi ∷ anElse ∷ plain ∷ aFi ∷ anOd ∷ aReturn ∷ []
+shapes = Shape.While ∷ Shape.If ∷ Shape.If ∷ Shape.Plain ∷ Shape.Else ∷ Shape.Fi ∷ Shape.Else ∷ Shape.Plain ∷ Shape.Fi ∷ Shape.Od ∷ Shape.Return ∷ []
 
 going-table : List (Row ℕ)
 going-table =

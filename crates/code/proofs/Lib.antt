@@ -1,8 +1,14 @@
 -- The laws of the grammar of code values, and what the proofs above cite.
 mod Cases
+pub mod Counting
 pub mod Ending
 pub mod Forms
 pub mod Gathering
+pub mod Going
 pub mod Listing
+pub mod Matching
 pub mod Open
 pub mod Respect
+pub mod Searches
+pub mod Shapes
+pub mod Stacks

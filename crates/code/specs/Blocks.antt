@@ -1,39 +1,49 @@
 -- How the lines of a method open and close blocks. Assumes nothing.
 use Prim.Native.Nat.{ℕ}
 use mathlib.Core.Bool.{Bool, true, false}
-use mathlib.Core.List.{List, [], _∷_}
+use mathlib.Core.List.{List, [], _∷_, map}
 use mathlib.Core.Option.{Option, none, some}
 use lib.Dec.{eqb}
+use lib.ListN.{getD}
+use Rattle.code.specs.declared.Shape.{Shape}
+use Rattle.code.specs.declared.Shape.the-variants as Shape
 use Rattle.code.specs.Statements.{Statement, skip, set, new, call, get, await, if, else, fi, while, od, return}
 
 -- what a line is, as far as blocks, returns and awaits go
-pub data Shape : Type 0 where
-  anIf anElse aFi aWhile anOd aReturn anAwait plain : Shape
-
 unfoldable pub shapeOf : {A G : Type 0} → Statement A G → Shape
-shapeOf skip = plain
-shapeOf (set x a) = plain
-shapeOf (new x class es) = plain
-shapeOf (call x a method es) = plain
-shapeOf (get x y) = plain
-shapeOf (await g) = anAwait
-shapeOf (if a) = anIf
-shapeOf else = anElse
-shapeOf fi = aFi
-shapeOf (while a) = aWhile
-shapeOf od = anOd
-shapeOf (return a) = aReturn
+shapeOf skip = Shape.Plain
+shapeOf (set x a) = Shape.Plain
+shapeOf (new x class es) = Shape.Plain
+shapeOf (call x a method es) = Shape.Plain
+shapeOf (get x y) = Shape.Plain
+shapeOf (await g) = Shape.Await
+shapeOf (if a) = Shape.If
+shapeOf else = Shape.Else
+shapeOf fi = Shape.Fi
+shapeOf (while a) = Shape.While
+shapeOf od = Shape.Od
+shapeOf (return a) = Shape.Return
 
 -- whether a line is of a shape, by numbers that tell the shapes apart
 unfoldable pub shapeNumber : Shape → ℕ
-shapeNumber anIf = 0
-shapeNumber anElse = 1
-shapeNumber aFi = 2
-shapeNumber aWhile = 3
-shapeNumber anOd = 4
-shapeNumber aReturn = 5
-shapeNumber anAwait = 6
-shapeNumber plain = 7
+shapeNumber Shape.If = 0
+shapeNumber Shape.Else = 1
+shapeNumber Shape.Fi = 2
+shapeNumber Shape.While = 3
+shapeNumber Shape.Od = 4
+shapeNumber Shape.Return = 5
+shapeNumber Shape.Await = 6
+shapeNumber Shape.Plain = 7
+
+-- the shape of a number, as a method's lines are handed to the code; a number of no shape is a plain line
+abbrev pub inOrder : List Shape
+inOrder = Shape.If ∷ Shape.Else ∷ Shape.Fi ∷ Shape.While ∷ Shape.Od ∷ Shape.Return ∷ Shape.Await ∷ []
+
+unfoldable pub shapeAt : ℕ → Shape
+shapeAt n = getD inOrder n Shape.Plain
+
+unfoldable pub shapesIn : List ℕ → List Shape
+shapesIn = map shapeAt
 
 unfoldable pub isShape : Shape → Shape → Bool
 isShape l m = eqb (shapeNumber l) (shapeNumber m)
@@ -50,24 +60,24 @@ rank untilOd = 2
 
 -- the block that a line closes, and the one that it opens: "Every `if` has one `else` and one `fi`"
 unfoldable pub closing : Shape → Option Block
-closing anIf = none
-closing anElse = some untilElse
-closing aFi = some untilFi
-closing aWhile = none
-closing anOd = some untilOd
-closing aReturn = none
-closing anAwait = none
-closing plain = none
+closing Shape.If = none
+closing Shape.Else = some untilElse
+closing Shape.Fi = some untilFi
+closing Shape.While = none
+closing Shape.Od = some untilOd
+closing Shape.Return = none
+closing Shape.Await = none
+closing Shape.Plain = none
 
 unfoldable pub opening : Shape → Option Block
-opening anIf = some untilElse
-opening anElse = some untilFi
-opening aFi = none
-opening aWhile = some untilOd
-opening anOd = none
-opening aReturn = none
-opening anAwait = none
-opening plain = none
+opening Shape.If = some untilElse
+opening Shape.Else = some untilFi
+opening Shape.Fi = none
+opening Shape.While = some untilOd
+opening Shape.Od = none
+opening Shape.Return = none
+opening Shape.Await = none
+opening Shape.Plain = none
 
 -- the open blocks, innermost first, without the one that a line closes: it must be the innermost
 unfoldable pub without : Option Block → List Block → Option (List Block)

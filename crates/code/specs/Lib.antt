@@ -1,6 +1,7 @@
 -- What a code value is, how it is read, and how blocks match.
 pub mod Answers
 pub mod Blocks
+pub mod Counting
 pub mod Partners
 pub mod Reader
 pub mod Readers

@@ -5,7 +5,9 @@ use mathlib.Core.List.{List}
 use mathlib.Core.Option.{Option, none, some}
 use lib.Dec.{eqb}
 use lib.ListN.{length, getD, take, drop}
-use Rattle.code.specs.Blocks.{Shape, anIf, anElse, aFi, aWhile, anOd, aReturn, anAwait, plain, Block, rank, opening, closing, balanced}
+use Rattle.code.specs.declared.Shape.{Shape}
+use Rattle.code.specs.declared.Shape.the-variants as Shape
+use Rattle.code.specs.Blocks.{Block, rank, opening, closing, balanced}
 
 -- one line opens the block that another closes: an `else` fits an `if`, a `fi` an `else`, an `od` a `while`
 unfoldable pub sameBlock : Option Block → Option Block → Bool
@@ -22,7 +24,7 @@ linesBetween ls i j = take (j - (i + 1)) (drop (i + 1) ls)
 
 -- the line at j is the partner of the line at i before it
 unfoldable pub partners : List Shape → ℕ → ℕ → Bool
-partners ls i j = fits (getD ls i plain) (getD ls j plain) && balanced (linesBetween ls i j)
+partners ls i j = fits (getD ls i Shape.Plain) (getD ls j Shape.Plain) && balanced (linesBetween ls i j)
 
 -- the first number from j on that passes a test, of so many
 unfoldable pub firstFrom : (ℕ → Bool) → ℕ → ℕ → Option ℕ
@@ -43,17 +45,21 @@ orEnd ls (some j) = j
 unfoldable pub ahead : List Shape → ℕ → ℕ
 ahead ls i = orEnd ls (firstFrom (partners ls i) (length ls) (i + 1))
 
+-- the partner of a line that closes a block
+unfoldable pub behind : List Shape → ℕ → ℕ
+behind ls i = orEnd ls (lastBelow (λ j. partners ls j i) i)
+
 -- the line that a line goes to: "`if` false goes to the line after its `else`; `else` goes to the line after its `fi`; `while` false to the
 -- line after its `od`; `od` back to its `while`"
 unfoldable pub goesFrom : Shape → List Shape → ℕ → ℕ
-goesFrom anIf ls i = ahead ls i + 1
-goesFrom anElse ls i = ahead ls i + 1
-goesFrom aWhile ls i = ahead ls i + 1
-goesFrom anOd ls i = orEnd ls (lastBelow (λ j. partners ls j i) i)
-goesFrom aFi ls i = i + 1
-goesFrom aReturn ls i = i
-goesFrom anAwait ls i = i + 1
-goesFrom plain ls i = i + 1
+goesFrom Shape.If ls i = ahead ls i + 1
+goesFrom Shape.Else ls i = ahead ls i + 1
+goesFrom Shape.While ls i = ahead ls i + 1
+goesFrom Shape.Od ls i = behind ls i
+goesFrom Shape.Fi ls i = i + 1
+goesFrom Shape.Return ls i = i
+goesFrom Shape.Await ls i = i + 1
+goesFrom Shape.Plain ls i = i + 1
 
 unfoldable pub goesTo : List Shape → ℕ → ℕ
-goesTo ls i = goesFrom (getD ls i plain) ls i
+goesTo ls i = goesFrom (getD ls i Shape.Plain) ls i

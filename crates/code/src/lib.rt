@@ -3,6 +3,7 @@ use terms::ReadWord;
 use terms::Variable;
 use whole::Worked;
 
+pub mod partners;
 pub mod statements;
 
 // The twelve forms of a code value.
@@ -71,4 +72,16 @@ pub enum ReadStatement {
 pub struct ReadCode {
     pub read: ReadStatement,
     pub arguments: Arguments,
+}
+
+// What a line is, as far as blocks, returns and awaits go.
+pub enum Shape {
+    If,
+    Else,
+    Fi,
+    While,
+    Od,
+    Return,
+    Await,
+    Plain,
 }

@@ -12,7 +12,9 @@ use Rattle.terms.specs.declared.Limits.{Limits}
 use Rattle.terms.specs.Parsed.{got, bad, word}
 use Rattle.terms.specs.Trees.{trees, guardTrees}
 use Rattle.code.specs.Statements.{Code, skip, set, new, call, get, await, if, else, fi, while, od, return}
-use Rattle.code.specs.Blocks.{Shape, aReturn, isShape, Block, shapeOf, through}
+use Rattle.code.specs.declared.Shape.{Shape}
+use Rattle.code.specs.declared.Shape.the-variants as Shape
+use Rattle.code.specs.Blocks.{isShape, Block, shapeOf, through}
 use Rattle.code.specs.Reader.{statement}
 use Rattle.model.specs.declared.Key.{Key}
 use Rattle.model.specs.declared.Key.the-variants as Key
@@ -228,7 +230,7 @@ isLast st = eqb (length (st .method .done) + 1) (st .method .lines)
 -- "A method's last line is a `return` outside all blocks." Any other line leaves at most eight blocks open
 unfoldable pub mayStand : State → Shape → List Block → Bool
 mayStand st shape open-blocks = elim (isLast st) [
-  | true ↦ isShape aReturn shape && eqb (length open-blocks) 0
+  | true ↦ isShape Shape.Return shape && eqb (length open-blocks) 0
   | false ↦ leb (length open-blocks) deepest
 ]
 
