@@ -40,6 +40,20 @@ extern "C" {
     ) -> u64;
 }
 
+#[cfg(have_probe)]
+/// A function of the library: it reads two slices, each a pointer and its length.
+type Probe = unsafe extern "C" fn(
+    text: *const u8,
+    text_len: usize,
+    at: usize,
+    cells: *const i32,
+    cells_len: usize,
+    attrs: u8,
+    locals: u8,
+    object: u8,
+    label: u32,
+) -> u64;
+
 /// Reads an expression from a place of the text, as far as the grammar goes.
 #[cfg(have_probe)]
 pub fn expression(
@@ -50,23 +64,7 @@ pub fn expression(
     object: u8,
     label: u32,
 ) -> Reading {
-    demand_place(text, at);
-    // SAFETY: each pointer stands with the length of its slice, and both slices
-    // live through the call; the function reads them alone and keeps no pointer.
-    // Of the rest it demands at most that `at` is in the text or at its end.
-    Reading::of(unsafe {
-        probe_expression(
-            text.as_ptr(),
-            text.len(),
-            at,
-            cells.as_ptr(),
-            cells.len(),
-            limits.attrs,
-            limits.locals,
-            object,
-            label,
-        )
-    })
+    read(probe_expression, text, at, cells, limits, object, label)
 }
 
 /// Reads a guard from a place of the text, as far as the grammar goes.
@@ -79,17 +77,33 @@ pub fn guard(
     object: u8,
     label: u32,
 ) -> Reading {
+    read(probe_guard, text, at, cells, limits, object, label)
+}
+
+#[cfg(have_probe)]
+fn read(
+    probe: Probe,
+    text: &[u8],
+    at: usize,
+    cells: &[i32],
+    limits: Limits,
+    object: u8,
+    label: u32,
+) -> Reading {
     demand_place(text, at);
-    // SAFETY: as for an expression.
+    let Limits { attrs, locals } = limits;
+    // SAFETY: each pointer stands with the length of its slice, and both slices
+    // live through the call; the function reads them alone and keeps no pointer.
+    // Of the rest it demands nothing.
     Reading::of(unsafe {
-        probe_guard(
+        probe(
             text.as_ptr(),
             text.len(),
             at,
             cells.as_ptr(),
             cells.len(),
-            limits.attrs,
-            limits.locals,
+            attrs,
+            locals,
             object,
             label,
         )
@@ -100,7 +114,7 @@ pub fn guard(
 #[cfg(have_probe)]
 fn demand_place(text: &[u8], at: usize) {
     assert!(text.len() < 1 << 16, "a text of {} bytes", text.len());
-    assert!(at <= text.len(), "{at} is past the end {}", text.len());
+    assert!(at < 1 << 16, "the place {at}");
 }
 
 impl Reading {

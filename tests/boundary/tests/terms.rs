@@ -548,3 +548,21 @@ fn no_cells() {
     }
     assert!(tally.values >= 2_000 && tally.refused >= 500, "{tally:?}");
 }
+
+/// A place past the end is refused there, whatever stands in memory behind the text.
+#[test]
+fn a_place_past_the_end() {
+    let memory = b"1+2*a0?wait([1])";
+    let limits = Limits {
+        attrs: 8,
+        locals: 8,
+    };
+    for length in 0..memory.len() {
+        let text = &memory[..length];
+        for place in length + 1..memory.len() + 4 {
+            let refused = Reading::Refused { place };
+            assert_eq!(probe::expression(text, place, &[], limits, 1, 1), refused);
+            assert_eq!(probe::guard(text, place, &[], limits, 1, 1), refused);
+        }
+    }
+}

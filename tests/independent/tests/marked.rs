@@ -6,70 +6,22 @@ use common::*;
 use independent::{drive, judge, run, runner, step, Choice, Drive};
 
 const CHOICES: [Choice; 16] = [
-    Choice {
-        kind: EXEC,
-        number: 1,
-    },
-    Choice {
-        kind: EXEC,
-        number: 1,
-    },
-    Choice {
-        kind: EXEC,
-        number: 1,
-    },
-    Choice {
-        kind: EXEC,
-        number: 1,
-    },
-    Choice {
-        kind: START,
-        number: 1,
-    },
-    Choice {
-        kind: ARRIVE,
-        number: 2,
-    },
-    Choice {
-        kind: BIND,
-        number: 2,
-    },
-    Choice {
-        kind: START,
-        number: 2,
-    },
-    Choice {
-        kind: EXEC,
-        number: 2,
-    },
-    Choice {
-        kind: EXEC,
-        number: 2,
-    },
-    Choice {
-        kind: START,
-        number: 1,
-    },
-    Choice {
-        kind: DELIVER,
-        number: 2,
-    },
-    Choice {
-        kind: START,
-        number: 1,
-    },
-    Choice {
-        kind: EXEC,
-        number: 1,
-    },
-    Choice {
-        kind: EXEC,
-        number: 1,
-    },
-    Choice {
-        kind: EXEC,
-        number: 1,
-    },
+    choice(EXEC, 1),
+    choice(EXEC, 1),
+    choice(EXEC, 1),
+    choice(EXEC, 1),
+    choice(START, 1),
+    choice(ARRIVE, 2),
+    choice(BIND, 2),
+    choice(START, 2),
+    choice(EXEC, 2),
+    choice(EXEC, 2),
+    choice(START, 1),
+    choice(DELIVER, 2),
+    choice(START, 1),
+    choice(EXEC, 1),
+    choice(EXEC, 1),
+    choice(EXEC, 1),
 ];
 const ANSWERS: [i32; 16] = [0, 0, 0, 27, 25, 0, 0, 0, 0, 0, 25, 0, 0, 0, 0, 0];
 
