@@ -54,67 +54,52 @@ type Probe = unsafe extern "C" fn(
     label: u32,
 ) -> u64;
 
-/// Reads an expression from a place of the text, as far as the grammar goes.
-#[cfg(have_probe)]
-pub fn expression(
-    text: &[u8],
-    at: usize,
-    cells: &[i32],
-    limits: Limits,
-    object: u8,
-    label: u32,
-) -> Reading {
-    read(probe_expression, text, at, cells, limits, object, label)
-}
-
-/// Reads a guard from a place of the text, as far as the grammar goes.
-#[cfg(have_probe)]
-pub fn guard(
-    text: &[u8],
-    at: usize,
-    cells: &[i32],
-    limits: Limits,
-    object: u8,
-    label: u32,
-) -> Reading {
-    read(probe_guard, text, at, cells, limits, object, label)
+/// What a reading begins with: a text and a place in it, the variables that there
+/// are, and the cells, the object and the label of the call that reads.
+#[derive(Clone, Copy, Debug)]
+pub struct Asked<'a> {
+    pub text: &'a [u8],
+    pub at: usize,
+    pub limits: Limits,
+    pub cells: &'a [i32],
+    pub object: u8,
+    pub label: u32,
 }
 
 #[cfg(have_probe)]
-fn read(
-    probe: Probe,
-    text: &[u8],
-    at: usize,
-    cells: &[i32],
-    limits: Limits,
-    object: u8,
-    label: u32,
-) -> Reading {
-    demand_place(text, at);
-    let Limits { attrs, locals } = limits;
-    // SAFETY: each pointer stands with the length of its slice, and both slices
-    // live through the call; the function reads them alone and keeps no pointer.
-    // Of the rest it demands nothing.
-    Reading::of(unsafe {
-        probe(
-            text.as_ptr(),
-            text.len(),
-            at,
-            cells.as_ptr(),
-            cells.len(),
-            attrs,
-            locals,
-            object,
-            label,
-        )
-    })
-}
+impl Asked<'_> {
+    /// Reads an expression, as far as the grammar goes.
+    pub fn expression(self) -> Reading {
+        self.read(probe_expression)
+    }
 
-/// The answer has 16 bits for a place.
-#[cfg(have_probe)]
-fn demand_place(text: &[u8], at: usize) {
-    assert!(text.len() < 1 << 16, "a text of {} bytes", text.len());
-    assert!(at < 1 << 16, "the place {at}");
+    /// Reads a guard, as far as the grammar goes.
+    pub fn guard(self) -> Reading {
+        self.read(probe_guard)
+    }
+
+    fn read(self, probe: Probe) -> Reading {
+        let Asked { text, at, .. } = self;
+        // The answer has 16 bits for a place.
+        assert!(text.len() < 1 << 16, "a text of {} bytes", text.len());
+        assert!(at < 1 << 16, "the place {at}");
+        // SAFETY: each pointer stands with the length of its slice, and both slices
+        // live through the call; the function reads them alone and keeps no pointer.
+        // Of the rest it demands nothing.
+        Reading::of(unsafe {
+            probe(
+                text.as_ptr(),
+                text.len(),
+                at,
+                self.cells.as_ptr(),
+                self.cells.len(),
+                self.limits.attrs,
+                self.limits.locals,
+                self.object,
+                self.label,
+            )
+        })
+    }
 }
 
 impl Reading {

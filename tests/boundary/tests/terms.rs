@@ -28,7 +28,7 @@
 
 mod raw;
 
-use boundary::probe::{self, Limits, Reading};
+use boundary::probe::{Asked, Limits, Reading};
 use independent::expression::{self, Surroundings};
 use independent::generate::{self, Random};
 use independent::{guard, place, LINE_BYTES};
@@ -113,18 +113,18 @@ impl Case<'_> {
     }
 
     fn read(&self, kind: Kind) -> Reading {
-        let read = match kind {
-            Kind::Expression => probe::expression,
-            Kind::Guard => probe::guard,
+        let asked = Asked {
+            text: self.text(),
+            at: self.at,
+            limits: self.limits,
+            cells: self.lent.cells(),
+            object: self.object,
+            label: self.label,
         };
-        read(
-            self.text(),
-            self.at,
-            self.lent.cells(),
-            self.limits,
-            self.object,
-            self.label,
-        )
+        match kind {
+            Kind::Expression => asked.expression(),
+            Kind::Guard => asked.guard(),
+        }
     }
 
     /// The answer that the head of this file derives.
@@ -553,16 +553,21 @@ fn no_cells() {
 #[test]
 fn a_place_past_the_end() {
     let memory = b"1+2*a0?wait([1])";
-    let limits = Limits {
-        attrs: 8,
-        locals: 8,
-    };
     for length in 0..memory.len() {
-        let text = &memory[..length];
         for place in length + 1..memory.len() + 4 {
-            let refused = Reading::Refused { place };
-            assert_eq!(probe::expression(text, place, &[], limits, 1, 1), refused);
-            assert_eq!(probe::guard(text, place, &[], limits, 1, 1), refused);
+            let asked = Asked {
+                text: &memory[..length],
+                at: place,
+                limits: Limits {
+                    attrs: 8,
+                    locals: 8,
+                },
+                cells: &[],
+                object: 1,
+                label: 1,
+            };
+            assert_eq!(asked.expression(), Reading::Refused { place });
+            assert_eq!(asked.guard(), Reading::Refused { place });
         }
     }
 }
