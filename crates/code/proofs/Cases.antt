@@ -1,10 +1,9 @@
 -- Where the lines of blocks go to, and where refused code values are placed, computed. Assumes nothing.
 use Prim.Native.Nat.{ℕ}
-use mathlib.Core.List.{List, [], _∷_, map}
+use mathlib.Core.List.{List, [], _∷_}
 use mathlib.Core.Path.{refl}
 use Rattle.whole.proofs.Tables.{Row, _is_, Holds}
 use Rattle.terms.specs.Bytes.{Text, bytes}
-use Rattle.terms.specs.declared.Limits.{Limits}
 use Rattle.terms.specs.Nothing.{nothing, guardNothing}
 use Rattle.terms.specs.Parsed.{Parsed, got, bad, mapped}
 use Rattle.code.specs.declared.Shape.{Shape}

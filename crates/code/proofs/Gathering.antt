@@ -1,11 +1,9 @@
 -- A list of arguments as the code gathers it: one more after some is one more. Assumes nothing.
-use Prim.Native.Nat.{ℕ, suc, _+_, _-_, _<_}
+use Prim.Native.Nat.{ℕ, _+_, _-_}
 use mathlib.Core.List.{List, [], _∷_, _++_}
-use mathlib.Core.Option.{Option, none, some}
-use mathlib.Core.Path.{_≡_, refl, sym, ap, _∙_}
-use native.Mathlib.Omega.{arith}
+use mathlib.Core.Option.{none, some}
+use mathlib.Core.Path.{_≡_, refl, ap, _∙_}
 use borrow.Author.Tests.{eq-eqb, ne-eqb}
-use lib.ListN.{length}
 use Rattle.whole.specs.declared.Worked.{Worked}
 use Rattle.whole.specs.declared.Worked.the-variants.{Value, OutOfRange}
 use Rattle.terms.specs.Bytes.{Text, byteAt}
@@ -13,7 +11,7 @@ use Rattle.layout.specs.Layout.{Cells}
 use Rattle.terms.specs.declared.Around.{Around}
 use Rattle.terms.specs.Answers.{surroundings}
 use Rattle.terms.specs.Expressions.{brackets}
-use Rattle.terms.specs.Parsed.{Parsed, got, bad, next, mapped, repeated, joining}
+use Rattle.terms.specs.Parsed.{Parsed, got, bad, mapped, repeated, joining}
 use Rattle.terms.specs.Readers.{expressionRead}
 use Rattle.terms.specs.Values.{values, guardValues}
 use Rattle.terms.proofs.Following.{respects-joining, mapped-id, mapped-got, mapped-bad}

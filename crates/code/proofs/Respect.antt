@@ -9,11 +9,11 @@ use mathlib.Core.Path.{_≡_, refl, sym, ap, _∙_}
 use lib.Dec.{eqb}
 use lib.ListN.{length}
 use Rattle.terms.specs.Bytes.{Text, byteAt}
-use Rattle.terms.specs.Expressions.{Reading, brackets, expression}
-use Rattle.terms.specs.Guards.{GuardReading, guard}
+use Rattle.terms.specs.Expressions.{Reading, brackets}
+use Rattle.terms.specs.Guards.{GuardReading}
 use Rattle.terms.specs.declared.Limits.{Limits}
-use Rattle.terms.specs.Leaves.{decimal, variable}
-use Rattle.terms.specs.Parsed.{Parsed, got, bad, next, mapped, word, ended, closed, repeated, joining}
+use Rattle.terms.specs.Leaves.{decimal}
+use Rattle.terms.specs.Parsed.{got, bad, next, mapped, word, ended, closed, repeated, joining}
 use Rattle.terms.specs.Trees.{trees, guardTrees}
 use Rattle.terms.specs.Values.{Surroundings, values, guardValues, valueOf, guardOf}
 use Rattle.terms.proofs.Following.{mapped-mapped, mapped-twice, mapped-got, mapped-bad, next-same, mapped-next, respects-next, respects-closed, respects-ended, respects-joining}

@@ -1,6 +1,6 @@
 -- What was read, as one number, and what it was read in. Assumes nothing.
 use Prim.Native.Nat.{ℕ, _+_, _*_, _^_, min}
-use lib.IntN.{ℤ, pos, negsuc}
+use lib.IntN.{ℤ}
 use mir.Syntax.{w32}
 use mir.Val.{ofZ}
 use Rattle.whole.specs.declared.Worked.{Worked}

@@ -1,8 +1,7 @@
 -- Short expressions and guards, computed: how they group, where a refusal is placed, and what they give. Assumes nothing.
-use Prim.Native.Nat.{ℕ}
 use mathlib.Core.List.{List, [], _∷_}
 use mathlib.Core.Path.{refl}
-use lib.IntN.{ℤ, pos, negsuc}
+use lib.IntN.{pos, negsuc}
 use lib.ListN.{replicate}
 use Rattle.whole.specs.declared.Operator.the-variants.{Plus, Minus, Times, Less}
 use Rattle.whole.specs.declared.Worked.{Worked}

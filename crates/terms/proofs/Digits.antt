@@ -9,7 +9,7 @@ use lib.Dec.{leb, eqb}
 use lib.ListN.{length}
 use Rattle.terms.specs.Bytes.{Text, byteAt, digit}
 use Rattle.terms.specs.Leaves.{counting, decimal}
-use Rattle.terms.specs.Parsed.{Parsed, got, bad, repeated}
+use Rattle.terms.specs.Parsed.{got, bad, repeated}
 use Rattle.terms.proofs.Bytes.{digit-is}
 use Rattle.terms.proofs.Moving.{Moves, past-end, within-text, same-place, same-read, no-got, repeated-goes, repeated-fails, repeated-stops, repeated-on, repeated-keeps}
 

@@ -6,7 +6,7 @@ use mathlib.Core.Path.{_≡_, refl, sym, ap, _∙_}
 use lib.Dec.{eqb}
 use lib.ListN.{length}
 use Rattle.terms.specs.Bytes.{Text, byteAt}
-use Rattle.terms.specs.Parsed.{Parsed, got, bad, next, mapped, word, ended, closed, repeated, joining, series}
+use Rattle.terms.specs.Parsed.{Parsed, got, bad, next, mapped, ended, closed, repeated, joining, series}
 
 pub mapped-mapped : {A B C : Type 0} (h : B → C) (k : A → B) (p : Parsed A) → mapped h (mapped k p) ≡ mapped (λ a. h (k a)) p
 unfolding mapped

@@ -1,16 +1,16 @@
 -- What is read always moves on; so enough repetitions are enough, and no reading goes back. Assumes nothing.
-use Prim.Native.Nat.{ℕ, zero, suc, _+_, _*_, _-_, _≤_, _<_}
-use mathlib.Core.Bool.{Bool, true, false, _&&_}
-use mathlib.Core.List.{List, [], _∷_}
+use Prim.Native.Nat.{ℕ, zero, suc, _+_, _-_, _≤_, _<_}
+use mathlib.Core.Bool.{Bool, true, false}
+use mathlib.Core.List.{[], _∷_}
 use mathlib.Core.Option.{Option, none, some}
 use mathlib.Core.Path.{_≡_, refl, sym, ap, subst, _∙_}
 use native.Mathlib.Numerals.{add-one}
 use native.Mathlib.Omega.{arith}
 use borrow.Author.Tests.{ltb-true, ltb-false, eq-eqb, ne-eqb}
-use lib.Dec.{leb, ltb, eqb}
+use lib.Dec.{ltb, eqb}
 use lib.ListN.{length, getD, drop, List·getD-eq-default, drop-of-length-le}
 use lib.Seq.{drop-cons}
-use Rattle.terms.specs.Bytes.{Text, byteAt, digit}
+use Rattle.terms.specs.Bytes.{Text, byteAt}
 use Rattle.terms.specs.Parsed.{Parsed, got, bad, next, mapped, word, closed, repeated, joining, series}
 use Rattle.terms.proofs.Following.{next-of-got, next-of-bad, repeated-none, repeated-some, joining-none, joining-some}
 

@@ -1,7 +1,7 @@
 -- Every reader of terms moves on: what it reads ends after the place that it began at. Assumes nothing.
 use Prim.Native.Nat.{ℕ, zero, suc, _+_, _<_}
 use Prim.Native.Char.{code}
-use mathlib.Core.Path.{_≡_, refl, sym, ap, _∙_}
+use mathlib.Core.Path.{_≡_, refl, ap}
 use native.Mathlib.Omega.{arith}
 use lib.ListN.{length}
 use Rattle.terms.specs.declared.AtomStart.{AtomStart}
@@ -12,8 +12,8 @@ use Rattle.terms.specs.declared.Start.the-variants as Start
 use Rattle.terms.specs.Bytes.{Text, bytes, byteAt}
 use Rattle.terms.specs.Expressions.{Reading, largest, startOf, star, sign, comparison, factorBy, factor, product, sum, comparing, expression}
 use Rattle.terms.specs.Guards.{GuardReading, atomStartOf, ampersand, bar, atomBy, atom, conjunction, disjunction, guard}
-use Rattle.terms.specs.Leaves.{decimal, variable}
-use Rattle.terms.specs.Parsed.{Parsed, got, bad, word, closed, opened}
+use Rattle.terms.specs.Leaves.{variable}
+use Rattle.terms.specs.Parsed.{Parsed, bad, word, opened}
 use Rattle.terms.proofs.Digits.{decimal-moves}
 use Rattle.terms.proofs.Moving.{Moves, moves-bad, moves-mapped, moves-closed, moves-series, word-on}
 use Rattle.terms.proofs.Variables.{variable-moves}

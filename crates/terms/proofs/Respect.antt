@@ -4,7 +4,6 @@ use Prim.Native.Char.{code}
 use mathlib.Core.Path.{_≡_, refl, sym, ap, _∙_}
 use lib.ListN.{length}
 use Rattle.whole.specs.declared.Operator.{Operator}
-use Rattle.whole.specs.declared.Worked.{Worked}
 use Rattle.terms.specs.declared.Start.{Start}
 use Rattle.terms.specs.declared.Start.the-variants as Start
 use Rattle.terms.specs.declared.Variable.{Variable}
@@ -16,7 +15,7 @@ use Rattle.terms.specs.declared.AtomStart.{AtomStart}
 use Rattle.terms.specs.declared.AtomStart.the-variants as AtomStart
 use Rattle.terms.specs.declared.Junction.{Junction}
 use Rattle.terms.specs.Guards.{GuardReading, atomStartOf, ampersand, bar, atomBy, atom, conjunction, disjunction, guard}
-use Rattle.terms.specs.Trees.{Expression, Guard, trees, guardTrees, fold, foldGuard}
+use Rattle.terms.specs.Trees.{Guard, trees, guardTrees, fold, foldGuard}
 use Rattle.terms.specs.Nothing.{nothing, guardNothing}
 use Rattle.terms.specs.Values.{Surroundings, values, guardValues, valueOf, guardOf}
 use Rattle.terms.proofs.Following.{mapped-mapped, mapped-twice, mapped-bad, respects-closed, respects-series}

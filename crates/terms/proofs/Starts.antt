@@ -1,13 +1,12 @@
 -- What a byte begins or joins, by the tests that the code makes. Assumes nothing.
 use Prim.Native.Nat.{ℕ, _≤_, _<_}
 use mathlib.Core.Bool.{Bool, true, false}
-use mathlib.Core.Option.{Option, none, some}
+use mathlib.Core.Option.{none, some}
 use mathlib.Core.Path.{_≡_, refl, sym, ap, _∙_}
 use borrow.Author.Tests.{eq-eqb, ne-eqb, ltb-true, ltb-false}
 use lib.Dec.{ltb}
 use lib.ListN.{length}
 use Rattle.whole.specs.declared.Operator.{Operator}
-use Rattle.whole.specs.declared.Operator.the-variants.{Times}
 use Rattle.terms.specs.declared.AtomStart.{AtomStart}
 use Rattle.terms.specs.declared.AtomStart.the-variants as AtomStart
 use Rattle.terms.specs.declared.Junction.the-variants.{Both, Either}

@@ -2,7 +2,7 @@
 use Prim.Native.Nat.{ℕ, _+_, _≤_, _<_}
 use mathlib.Core.Bool.{Bool, true, false}
 use mathlib.Core.Option.{Option, none, some}
-use mathlib.Core.Path.{_≡_, refl, sym, ap, _∙_}
+use mathlib.Core.Path.{_≡_, refl, sym, _∙_}
 use native.Mathlib.Omega.{arith}
 use borrow.Author.Tests.{lt-ltb, le-ltb, ltb-true, ltb-false, eq-eqb, ne-eqb, eqb-true, eqb-false}
 use lib.Dec.{ltb, eqb}
@@ -10,7 +10,7 @@ use Rattle.terms.specs.declared.Limits.{Limits}
 use Rattle.terms.specs.declared.Variable.the-variants.{Attribute, Local}
 use Rattle.terms.specs.Bytes.{Text, byteAt, digit}
 use Rattle.terms.specs.Leaves.{numbered, variable}
-use Rattle.terms.specs.Parsed.{Parsed, got, bad, mapped}
+use Rattle.terms.specs.Parsed.{got, bad, mapped}
 use Rattle.terms.proofs.Bytes.{digit-is}
 use Rattle.terms.proofs.Moving.{Moves, same-place, no-got, moves-mapped}
 

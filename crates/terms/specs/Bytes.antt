@@ -1,8 +1,8 @@
 -- Bytes of a text: what stands at a place, a text literal as its bytes, digits. Assumes nothing.
 use Prim.Native.Nat.{ℕ, _-_}
-use Prim.Native.Char.{Char, code}
+use Prim.Native.Char.{code}
 use Prim.Native.String as Literal
-use mathlib.Core.Bool.{Bool, true, false, _&&_}
+use mathlib.Core.Bool.{true, false, _&&_}
 use mathlib.Core.List.{List, [], _∷_}
 use mathlib.Core.Option.{Option, none, some}
 use lib.Dec.{leb}

@@ -1,9 +1,9 @@
 -- The grammar of expressions, over any reading. Assumes nothing.
 use Prim.Native.Nat.{ℕ, zero, suc, _+_}
 use Prim.Native.Char.{code}
-use mathlib.Core.Bool.{Bool, true, false}
+use mathlib.Core.Bool.{true, false}
 use mathlib.Core.Option.{Option, none, some}
-use lib.Dec.{leb, eqb}
+use lib.Dec.{eqb}
 use lib.ListN.{length}
 use Rattle.whole.specs.declared.Operator.{Operator}
 use Rattle.whole.specs.declared.Operator.the-variants.{Plus, Minus, Times, Less, Equal}
@@ -13,7 +13,7 @@ use Rattle.terms.specs.declared.Variable.{Variable}
 use Rattle.terms.specs.Bytes.{Text, bytes, byteAt, digit}
 use Rattle.terms.specs.declared.Limits.{Limits}
 use Rattle.terms.specs.Leaves.{decimal, variable}
-use Rattle.terms.specs.Parsed.{Parsed, got, bad, next, mapped, word, closed, series}
+use Rattle.terms.specs.Parsed.{Parsed, bad, mapped, word, closed, series}
 
 -- "a decimal 0..2147483647"
 abbrev pub largest : ℕ

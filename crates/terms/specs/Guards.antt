@@ -1,7 +1,7 @@
 -- The grammar of guards, over any reading of guards and of the expressions in them. Assumes nothing.
 use Prim.Native.Nat.{ℕ, zero, suc, _+_}
 use Prim.Native.Char.{code}
-use mathlib.Core.Bool.{Bool, true, false}
+use mathlib.Core.Bool.{true, false}
 use mathlib.Core.Option.{Option, none, some}
 use lib.Dec.{eqb}
 use lib.ListN.{length}
@@ -14,7 +14,7 @@ use Rattle.terms.specs.Bytes.{Text, bytes, byteAt}
 use Rattle.terms.specs.Expressions.{Reading, expression}
 use Rattle.terms.specs.declared.Limits.{Limits}
 use Rattle.terms.specs.Leaves.{variable}
-use Rattle.terms.specs.Parsed.{Parsed, got, bad, next, mapped, word, closed, series}
+use Rattle.terms.specs.Parsed.{Parsed, bad, mapped, word, closed, series}
 
 -- what each part of a guard gives, where its expressions give an A
 pub record GuardReading (A G : Type 0) : Type 0 where

@@ -1,11 +1,10 @@
 -- `code::statements::gathered` meets its contract. The measure is how many more there may be. Assumes nothing.
-use Prim.Native.Nat.{_+_, _-_, _<_, _≤_, suc, zero, ℕ}
+use Prim.Native.Nat.{_+_, _-_, _<_, suc, ℕ}
 use borrow.Author.Needs.{needs}
 use borrow.Fn.Kinds.{In}
 use borrow.Fn.PlainCycle.{Measures, is, falls, and}
-use lib.ListN.{length}
 use mathlib.Core.Option.{some}
-use mathlib.Core.Path.{_≡_, refl, sym, ap, _∙_}
+use mathlib.Core.Path.{_≡_, sym, ap, _∙_}
 use native.Mathlib.Omega.{arith}
 use Rattle.code.proofs.Gathering.{comma-some, comma-none, comma-zero, one-more}
 use Rattle.code.proofs.statements.+gathered.Lts-gathered as gathered-lts
@@ -15,10 +14,7 @@ use Rattle.code.proofs.statements.gathered.Kinds as gathered-kinds
 use Rattle.code.proofs.statements.gathered.Reads as gathered
 use Rattle.code.proofs.statements.no_arguments.Reads as no-arguments-reads
 use Rattle.code.proofs.statements.with_one.Reads as with-one-reads
-use Rattle.code.specs.Answers.{withOne, noArguments, asList}
-use Rattle.whole.specs.declared.Worked.{Worked}
-use Rattle.whole.specs.declared.Worked.the-variants.{Value, OutOfRange}
-use Rattle.code.specs.declared.Arguments.{Arguments}
+use Rattle.code.specs.Answers.{withOne, asList}
 use Rattle.code.specs.Reader.{comma}
 use Rattle.code.specs.Readers.{gatheredRead}
 use Rattle.terms.proofs.Answers.{value-got, value-bad}
@@ -28,7 +24,7 @@ use Rattle.terms.proofs.expressions.expression.Reads as expression-reads
 use Rattle.terms.proofs.leaves.byte_at.Reads as byte-at-reads
 use Rattle.terms.specs.Bytes.{byteAt}
 use Rattle.terms.specs.Expressions.{brackets}
-use Rattle.terms.specs.Parsed.{repeated, joining}
+use Rattle.terms.specs.Parsed.{repeated}
 use Rattle.terms.specs.Readers.{expressionRead}
 use Rattle.terms.specs.declared.ReadWord.the-variants as Word
 

@@ -1,7 +1,6 @@
 -- `code::statements::arguments` meets its contract. Assumes nothing.
-use Prim.Native.Nat.{_+_}
 use borrow.Author.Needs.{needs}
-use mathlib.Core.Path.{_≡_, refl, sym, ap, _∙_}
+use mathlib.Core.Path.{_≡_, sym, ap, _∙_}
 use native.Mathlib.Omega.{arith}
 use Rattle.code.proofs.Gathering.{arguments-none, arguments-bad, arguments-got, one-more}
 use Rattle.code.specs.Answers.{noArguments, withOne, asList}

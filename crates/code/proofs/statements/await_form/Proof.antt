@@ -1,6 +1,6 @@
 -- `code::statements::await_form` meets its contract. Assumes nothing.
 use borrow.Author.Needs.{needs}
-use mathlib.Core.Path.{sym, ap, _∙_}
+use mathlib.Core.Path.{sym, _∙_}
 use Rattle.code.proofs.Ending.{code-bad, code-got, mapped-is-got, mapped-is-bad}
 use Rattle.code.specs.Answers.{asStatement, argumentsOf}
 use Rattle.code.specs.Reader.{rest}

@@ -1,10 +1,10 @@
 -- `code::statements::call_form` meets its contract. Assumes nothing.
 use borrow.Author.Needs.{needs}
-use mathlib.Core.Path.{_≡_, refl, sym, ap, _∙_}
+use mathlib.Core.Path.{sym, ap, _∙_}
 use Rattle.code.proofs.Ending.{code-bad, after-got, after-bad}
 use Rattle.code.specs.Answers.{asCode}
 use Rattle.code.specs.Reader.{target, operand, rest}
-use Rattle.terms.proofs.Answers.{variable-got, variable-bad, value-got, value-bad, number-got, number-bad}
+use Rattle.terms.proofs.Answers.{variable-got, variable-bad, value-got, value-bad}
 use Rattle.terms.specs.Parsed.{ended}
 use Rattle.code.proofs.statements.call_form.Statement.{statement}
 use Rattle.code.proofs.statements.call_form.Tie as tie

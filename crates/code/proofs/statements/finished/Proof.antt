@@ -1,7 +1,7 @@
 -- `code::statements::finished` meets its contract. Assumes nothing.
 use borrow.Author.Needs.{needs}
 use borrow.Author.Tests.{eq-eqb, ne-eqb}
-use mathlib.Core.Path.{_≡_, refl, sym, _∙_}
+use mathlib.Core.Path.{refl}
 use Rattle.code.specs.Answers.{finished}
 use Rattle.code.proofs.statements.finished.Statement.{statement}
 use Rattle.code.proofs.statements.finished.Tie as tie

@@ -1,5 +1,5 @@
 -- `code::statements::form_by` meets its contract. Assumes nothing.
-use mathlib.Core.Path.{sym, ap, _∙_}
+use mathlib.Core.Path.{sym, ap}
 use Rattle.code.proofs.Forms.{beginning-none}
 use Rattle.code.specs.Answers.{asForm}
 use Rattle.code.specs.Reader.{beginning, initials}

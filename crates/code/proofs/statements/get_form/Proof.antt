@@ -1,11 +1,11 @@
 -- `code::statements::get_form` meets its contract. Assumes nothing.
 use borrow.Author.Needs.{needs}
-use mathlib.Core.Path.{sym, ap, _∙_}
+use mathlib.Core.Path.{sym, _∙_}
 use Rattle.code.proofs.Ending.{code-bad, code-got, after-got, after-bad, mapped-is-got, mapped-is-bad}
 use Rattle.code.specs.Answers.{asStatement, argumentsOf}
 use Rattle.code.specs.Reader.{target, operand, rest}
 use Rattle.code.specs.Statements.{get}
-use Rattle.terms.proofs.Answers.{variable-got, variable-bad, value-got, value-bad}
+use Rattle.terms.proofs.Answers.{variable-got, variable-bad}
 use Rattle.code.proofs.statements.get_form.Statement.{statement}
 use Rattle.code.proofs.statements.get_form.Tie as tie
 

@@ -1,6 +1,6 @@
 -- `code::statements::listed` meets its contract. Assumes nothing.
 use borrow.Author.Needs.{needs}
-use mathlib.Core.Path.{_≡_, sym, ap, _∙_}
+use mathlib.Core.Path.{_∙_}
 use Rattle.code.proofs.Ending.{list-got, list-bad}
 use Rattle.code.proofs.Listing.{listed-got, listed-bad}
 use Rattle.code.proofs.statements.listed.Statement.{statement}

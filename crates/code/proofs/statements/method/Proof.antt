@@ -1,6 +1,6 @@
 -- `code::statements::method` meets its contract. Assumes nothing.
 use borrow.Author.Needs.{needs}
-use mathlib.Core.Path.{_≡_, refl, sym, ap, _∙_}
+use mathlib.Core.Path.{refl, sym, ap, _∙_}
 use Rattle.code.proofs.Ending.{code-bad, after-got, after-bad}
 use Rattle.code.proofs.Listing.{listed-is}
 use Rattle.code.specs.Answers.{asStatement, argumentsOf, asCode}

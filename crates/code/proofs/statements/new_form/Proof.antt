@@ -1,13 +1,13 @@
 -- `code::statements::new_form` meets its contract. Assumes nothing.
 use borrow.Author.Needs.{needs}
-use mathlib.Core.Path.{_≡_, refl, sym, ap, _∙_}
+use mathlib.Core.Path.{refl, sym, ap, _∙_}
 use native.Mathlib.Omega.{arith}
 use Rattle.code.proofs.Ending.{code-bad, after-got, after-bad}
 use Rattle.code.proofs.Listing.{listed-is, any-classes}
 use Rattle.code.specs.Answers.{asStatement, argumentsOf, asCode}
 use Rattle.code.specs.Reader.{target, rest}
 use Rattle.code.specs.Statements.{new}
-use Rattle.terms.proofs.Answers.{variable-got, variable-bad, value-got, value-bad, number-got, number-bad}
+use Rattle.terms.proofs.Answers.{variable-got, variable-bad, number-got, number-bad}
 use Rattle.terms.specs.Parsed.{mapped, ended}
 use Rattle.code.proofs.statements.new_form.Statement.{statement}
 use Rattle.code.proofs.statements.new_form.Tie as tie

@@ -1,6 +1,6 @@
 -- `code::statements::rest` meets its contract: each form has a function. Assumes nothing.
 use borrow.Author.Needs.{needs}
-use mathlib.Core.Path.{_≡_, refl, sym, ap, _∙_}
+use mathlib.Core.Path.{refl, _∙_}
 use Rattle.code.proofs.Ending.{code-got}
 use Rattle.code.specs.Answers.{asStatement, argumentsOf}
 use Rattle.code.specs.Reader.{target, operand, listed, arguments, rest as restOf}

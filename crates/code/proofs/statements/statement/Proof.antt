@@ -1,6 +1,6 @@
 -- `code::statements::statement` meets its contract. Assumes nothing.
 use borrow.Author.Needs.{needs}
-use mathlib.Core.Path.{_≡_, refl, sym, ap, _∙_}
+use mathlib.Core.Path.{sym, ap, _∙_}
 use Rattle.code.proofs.Ending.{code-bad, after-got, after-bad}
 use Rattle.code.proofs.Forms.{form-some, form-none, statement-none, statement-some}
 use Rattle.code.specs.Answers.{asCode}
