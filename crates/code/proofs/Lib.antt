@@ -8,6 +8,7 @@ pub mod Going
 pub mod Listing
 pub mod Matching
 pub mod Open
+pub mod OpenBlocks
 pub mod Respect
 pub mod Searches
 pub mod Shapes

@@ -2,6 +2,8 @@
 pub mod Answers
 pub mod Blocks
 pub mod Counting
+pub mod Creating
+pub mod OpenBlocks
 pub mod Partners
 pub mod Reader
 pub mod Readers

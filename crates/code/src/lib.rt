@@ -3,6 +3,7 @@ use terms::ReadWord;
 use terms::Variable;
 use whole::Worked;
 
+pub mod blocks;
 pub mod partners;
 pub mod statements;
 
@@ -84,4 +85,10 @@ pub enum Shape {
     Return,
     Await,
     Plain,
+}
+
+// The open blocks after a line, as one number; or the line closes a block that is not the innermost open one.
+pub enum BlocksAfter {
+    Open(u32),
+    Unmatched,
 }

@@ -1,0 +1,36 @@
+-- The class that a `new` names and how many arguments it has, by the statement and by what the code read of it. Assumes nothing.
+use Prim.Native.Nat.{ℕ}
+use mathlib.Core.Option.{Option, none, some}
+use lib.ListN.{length}
+use Rattle.code.specs.declared.Statement as Declared
+use Rattle.code.specs.declared.Statement.the-variants as Said
+use Rattle.code.specs.Statements.{Statement, skip, set, new, call, get, await, if, else, fi, while, od, return}
+
+unfoldable pub newOf : {A G : Type 0} → Statement A G → Option (ℕ × ℕ)
+newOf skip = none
+newOf (set x a) = none
+newOf (new x k es) = some (k, length es)
+newOf (call x a j es) = none
+newOf (get x y) = none
+newOf (await g) = none
+newOf (if a) = none
+newOf else = none
+newOf fi = none
+newOf (while a) = none
+newOf od = none
+newOf (return a) = none
+
+-- the same of a statement beside which so many arguments stand
+unfoldable pub newSaid : Declared.Statement → ℕ → Option (ℕ × ℕ)
+newSaid Said.Skip n = none
+newSaid (Said.Set x a) n = none
+newSaid (Said.New x k) n = some (k, n)
+newSaid (Said.Call x a j) n = none
+newSaid (Said.Get x y) n = none
+newSaid (Said.Await g) n = none
+newSaid (Said.If a) n = none
+newSaid Said.Else n = none
+newSaid Said.Fi n = none
+newSaid (Said.While a) n = none
+newSaid Said.Od n = none
+newSaid (Said.Return a) n = none
