@@ -13,3 +13,4 @@ pub mod Respect
 pub mod Searches
 pub mod Shapes
 pub mod Stacks
+pub mod Told
