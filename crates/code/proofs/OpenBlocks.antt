@@ -40,7 +40,7 @@ module _ (b : Block) (bs : List Block) where
   packed-left : packed (b ∷ bs) / 4 ≡ packed bs
   packed-left = omega (arith, packed-more, digit-small b)
 
-packed-nil : packed [] ≡ 0
+pub packed-nil : packed [] ≡ 0
 unfolding packed
 packed-nil = refl
 
@@ -50,10 +50,10 @@ packed-none [] = ap (λ n. eqb n 0) packed-nil
 packed-none (b ∷ bs) =
     ne-eqb (packed (b ∷ bs)) 0 (λ e. omega (arith, packed-more b bs, digit-some b)) ∙ sym (ne-eqb (length (b ∷ bs)) 0 (λ e. omega arith))
 
--- so many digits are below so many powers of the base, and no more digits are
 power-more : (n : ℕ) → 4 ^ suc n ≡ 4 * 4 ^ n
 power-more n = pow-succ' 4 n
 
+-- a number of at most so many digits is below that power of the base, and one of more digits is not
 pub packed-below : (bs : List Block) (n : ℕ) → length bs ≤ n → packed bs < 4 ^ n
 packed-below [] n h = omega (arith, packed-nil, one-le-pow n 4 (omega arith))
 packed-below (b ∷ bs) zero h = absurd (omega arith)
@@ -103,6 +103,17 @@ as-some bs = refl
 as-none : asBlocks none ≡ After.Unmatched
 unfolding asBlocks
 as-none = refl
+
+-- what the code gives tells whether the line can stand there, and the blocks after it
+pub unmatched-told : (o : Option (List Block)) → asBlocks o ≡ After.Unmatched → o ≡ none
+unfolding asBlocks
+unmatched-told none e = refl
+unmatched-told (some bs) e = cc
+
+pub open-told : (o : Option (List Block)) (n : ℕ) → asBlocks o ≡ After.Open n → (bs : List Block) × (o ≡ some bs) × (n ≡ packed bs)
+unfolding asBlocks
+open-told none n e = absurd (let z : _≡_ {A = ℕ} 0 1 = cc in omega arith)
+open-told (some bs) n e = (bs, refl, (cc))
 
 -- what the code works out for a block that is opened, one that is closed, and one that is not the innermost
 module _ (b : Block) (d n : ℕ) (e : d ≡ digit b) where

@@ -10,11 +10,13 @@ ghost use Rattle.code.specs.declared.Shape.the-variants as Shape;
 ghost use Rattle.code.specs.Blocks as Blocks;
 ghost use Rattle.code.specs.OpenBlocks as OpenBlocks;
 
-// An `if` that waits for its `else`, one that waits for its `fi`, a `while` that waits for its `od`.
+// The digit of an `if` that waits for its `else`.
 const UNTIL_ELSE: u32 = 1;
 
+// The digit of an `if` that waits for its `fi`.
 const UNTIL_FI: u32 = 2;
 
+// The digit of a `while` that waits for its `od`.
 const UNTIL_OD: u32 = 3;
 
 // One more than the largest digit.
