@@ -14,7 +14,7 @@ use Rattle.code.specs.Statements.{Code}
 use Rattle.code.specs.declared.Shape.the-variants as Shape
 use Rattle.code.specs.Blocks.{shapeOf, isShape}
 use Rattle.model.specs.Model.{Model, runs}
-use Rattle.model.specs.Automaton.{mostParams}
+use Rattle.model.specs.Counts.{mostParams}
 use Rattle.code.specs.Reader.{lastMethod}
 use Rattle.cells.specs.Standing.{classOf, bodyOf, statementOf}
 

@@ -1,18 +1,20 @@
 -- A proof that computes with the definitions of this crate and of all below it says `unfolding model-open`. Assumes nothing.
 use Rattle.model.specs.Automaton
+use Rattle.model.specs.Counts
 use Rattle.model.specs.Judge
 use Rattle.model.specs.Keys
 use Rattle.model.specs.Lines
 use Rattle.model.specs.Model
 use Rattle.model.specs.Numbers
+use Rattle.model.specs.Table
 use Rattle.code.proofs.Open.{code-open}
 
 unfoldable pub model-open : Unit {0}
 unfolding code-open Automaton.freshClass Automaton.freshMethod Automaton.freshModel Automaton.begin Automaton.withModel
-    Automaton.withClass Automaton.withMethod Automaton.inFirstClass Automaton.inRunMethod Automaton.lowest Automaton.highest
-    Automaton.classClosed Automaton.nextMethod Automaton.methodClosed Automaton.numbered Automaton.numberLine Automaton.creationsOf
-    Automaton.isLast Automaton.mayStand Automaton.stated Automaton.blockLine Automaton.limitsOf Automaton.codeLine Automaton.valueLine
+    Automaton.withClass Automaton.withMethod Automaton.modelCounted Automaton.classCounted Automaton.methodCounted Automaton.counted Counts.inFirstClass Counts.inRunMethod Counts.lowestRun Counts.highestGiven Counts.highestParams Counts.highestLines Counts.lowest Counts.highest
+    Automaton.classJoined Automaton.classClosed Automaton.nextMethod Automaton.methodJoined Automaton.methodClosed Automaton.methodsBegun Automaton.linesCounted Automaton.linesBegun Automaton.numbered Automaton.numberLine Automaton.creationsOf
+    Counts.isLast Counts.mayStand Automaton.codeJoined Automaton.creationsJoined Automaton.lineJoined Automaton.stated Automaton.blockLine Automaton.limitsOf Automaton.codeLine Automaton.valueLine
     Automaton.feed Judge.givenTo Judge.countsJudged Judge.endJudged Judge.linesJudged Judge.judged Judge.verdictOf Judge.judge
     Keys.nameOf Keys.asked Lines.grown Lines.lines Lines.beforeFeed Lines.lineEnd Lines.plainBytes Lines.sound Lines.content Model.runs
-    Model.takes Model.methodOf Model.bindsTo Numbers.numberIn Numbers.asNumberLine
+    Model.takes Model.methodOf Model.bindsTo Numbers.numberIn Numbers.asNumberLine Table.rowOf Table.put Table.Rows
 model-open = tt

@@ -1,55 +1,32 @@
 -- The text as a fold of lines: which key comes next, what was read so far, and what one line makes of it. Assumes nothing.
-use Prim.Native.Nat.{ℕ, _+_, _-_, min}
-use mathlib.Core.Bool.{Bool, true, false, _&&_}
+use Prim.Native.Nat.{ℕ, _+_}
+use mathlib.Core.Bool.{true, false}
 use mathlib.Core.List.{List, [], _∷_, _++_}
 use mathlib.Core.Option.{none, some}
-use lib.Dec.{leb, ltb, eqb}
+use mathlib.Core.Path.{_≡_}
+use lib.Dec.{ltb}
 use lib.ListN.{length, drop}
 use Rattle.whole.specs.Refusals.{brokenLine, wrongKey, wrongNumber, wrongCode, wrongBlocks}
-use Rattle.layout.specs.Layout as Layout
 use Rattle.terms.specs.Bytes.{Text}
 use Rattle.terms.specs.declared.Limits.{Limits}
 use Rattle.terms.specs.Parsed.{got, bad, word}
 use Rattle.terms.specs.Trees.{trees, guardTrees}
-use Rattle.code.specs.Statements.{Code, skip, set, new, call, get, await, if, else, fi, while, od, return}
-use Rattle.code.specs.declared.Shape.{Shape}
-use Rattle.code.specs.declared.Shape.the-variants as Shape
-use Rattle.code.specs.Blocks.{isShape, Block, shapeOf, through}
+use Rattle.code.specs.Creating.{newOf}
+use Rattle.code.specs.Statements.{Code}
+use Rattle.code.specs.Blocks.{Block, shapeOf, through}
+use Rattle.code.specs.OpenBlocks.{packed}
 use Rattle.code.specs.Reader.{statement}
+use Rattle.model.specs.declared.ClassCounts.{ClassCounts}
+use Rattle.model.specs.declared.Counts.{Counts}
 use Rattle.model.specs.declared.Key.{Key}
 use Rattle.model.specs.declared.Key.the-variants as Key
+use Rattle.model.specs.declared.MethodCounts.{MethodCounts}
+use Rattle.model.specs.declared.ModelCounts.{ModelCounts}
+use Rattle.model.specs.Counts.{lowest, highest, isLast, mayStand}
 use Rattle.model.specs.Lines.{Line, sound, content}
 use Rattle.model.specs.Keys.{nameOf, Asked, aNumber, aCode, nothing, asked}
 use Rattle.model.specs.Model.{Method, Class}
 use Rattle.model.specs.Numbers.{numberIn}
-
--- "`creol=1`"
-abbrev pub edition : ℕ
-edition = 1
-
--- "`classes=` 1..16"
-abbrev pub mostClasses : ℕ
-mostClasses = 16
-
--- "`methods=` run..8"
-abbrev pub mostMethods : ℕ
-mostMethods = 8
-
--- "`params=` 0..4"
-abbrev pub mostParams : ℕ
-mostParams = 4
-
--- "`lines=` 1..64"
-abbrev pub mostLines : ℕ
-mostLines = 64
-
--- "All `lines=` together are at most 512."
-abbrev pub allLines : ℕ
-allLines = 512
-
--- "Blocks nest at most 8 deep."
-abbrev pub deepest : ℕ
-deepest = 8
 
 -- a `new` with the line that it stands at: how many arguments its class is to be given is judged last
 pub record Creation : Type 0 where
@@ -107,53 +84,42 @@ withClass st k c = record { key = k; model = st .model; class = c; method = st .
 unfoldable pub withMethod : State → Key → InMethod → State
 withMethod st k m = record { key = k; model = st .model; class = st .class; method = m }
 
--- the class being read is class 0
-unfoldable pub inFirstClass : State → Bool
-inFirstClass st = eqb (length (st .model .done)) 0
+-- a state in numbers, as the code holds it
+unfoldable pub modelCounted : InModel → ModelCounts
+modelCounted m = record { classes = m .classes; total = m .total; creations = length (m .creations); read = length (m .done) }
 
--- "Where run is 1, method 0 has params 0."
-unfoldable pub inRunMethod : State → Bool
-inRunMethod st = eqb (st .class .run) 1 && eqb (length (st .class .done)) 0
+unfoldable pub classCounted : InClass → ClassCounts
+classCounted c = record { attrs = c .attrs; given = c .given; run = c .run; methods = c .methods; read = length (c .done) }
 
--- the range of each number: its low end, and its high end. "Class 0 has given 0 and run 1."
-unfoldable pub lowest : Key → State → ℕ
-lowest Key.Creol st = edition
-lowest Key.Classes st = 1
-lowest Key.Class st = length (st .model .done)
-lowest Key.Attrs st = 0
-lowest Key.Given st = 0
-lowest Key.Run st = elim (inFirstClass st) [ true ↦ 1 | false ↦ 0 ]
-lowest Key.Methods st = st .class .run
-lowest Key.Method st = length (st .class .done)
-lowest Key.Params st = 0
-lowest Key.Locals st = st .method .params
-lowest Key.Lines st = 1
-lowest Key.Code st = 0
-lowest Key.End st = 0
+unfoldable pub methodCounted : InMethod → MethodCounts
+methodCounted o = record { params = o .params; locals = o .locals; lines = o .lines; read = length (o .done); blocks = packed (o .blocks) }
 
-unfoldable pub highest : Key → State → ℕ
-highest Key.Creol st = edition
-highest Key.Classes st = mostClasses
-highest Key.Class st = length (st .model .done)
-highest Key.Attrs st = Layout.attributes
-highest Key.Given st = elim (inFirstClass st) [ true ↦ 0 | false ↦ st .class .attrs ]
-highest Key.Run st = 1
-highest Key.Methods st = mostMethods
-highest Key.Method st = length (st .class .done)
-highest Key.Params st = elim (inRunMethod st) [ true ↦ 0 | false ↦ mostParams ]
-highest Key.Locals st = Layout.locals
-highest Key.Lines st = min mostLines (allLines - st .model .total)
-highest Key.Code st = 0
-highest Key.End st = 0
+unfoldable pub counted : State → Counts
+counted st = record {
+  key = st .key;
+  model = modelCounted (st .model);
+  class = classCounted (st .class);
+  method = methodCounted (st .method);
+}
 
--- the class being read is whole: it joins the model, and the next class comes, or the end
-unfoldable pub classClosed : State → State
-classClosed st =
+-- the code's counts follow a change of the state: whatever state they are of, they are of the changed one afterwards
+abbrev pub Follows : (State → State) → Counts → Counts → Type 0
+Follows change before after = (st : State) → before ≡ counted st → after ≡ counted (change st)
+
+-- the class being read joins the model
+unfoldable pub classJoined : State → InModel
+classJoined st =
     let m = st .model in
     let c = st .class in
     let done = m .done ++ (record { attrs = c .attrs; given = c .given; run = c .run; methods = c .done } ∷ []) in
-    let closed : InModel = record { classes = m .classes; total = m .total; creations = m .creations; done = done } in
-    elim (ltb (length done) (m .classes)) [ true ↦ withModel st Key.Class closed | false ↦ withModel st Key.End closed ]
+    record { classes = m .classes; total = m .total; creations = m .creations; done = done }
+
+-- the class being read is whole: the next class comes, or the end
+unfoldable pub classClosed : State → State
+classClosed st = elim (ltb (length (classJoined st .done)) (st .model .classes)) [
+  | true ↦ withModel st Key.Class (classJoined st)
+  | false ↦ withModel st Key.End (classJoined st)
+]
 
 -- after `methods=` and after each method: the next method comes, or the class is whole
 unfoldable pub nextMethod : State → State
@@ -162,37 +128,60 @@ nextMethod st = elim (ltb (length (st .class .done)) (st .class .methods)) [
   | false ↦ classClosed st
 ]
 
--- the method being read is whole: it joins the class
-unfoldable pub methodClosed : State → State
-methodClosed st =
+-- the method being read joins its class
+unfoldable pub methodJoined : State → InClass
+methodJoined st =
     let c = st .class in
     let m = st .method in
     let done = c .done ++ (record { params = m .params; locals = m .locals; code = m .done } ∷ []) in
-    nextMethod (withClass st Key.Method (record { attrs = c .attrs; given = c .given; run = c .run; methods = c .methods; done = done }))
+    record { attrs = c .attrs; given = c .given; run = c .run; methods = c .methods; done = done }
 
--- what a number makes of the state
+-- the method being read is whole
+unfoldable pub methodClosed : State → State
+methodClosed st = nextMethod (withClass st Key.Method (methodJoined st))
+
+-- so many methods are to come
+unfoldable pub methodsBegun : State → ℕ → InClass
+methodsBegun st n =
+    let c = st .class in
+    record { attrs = c .attrs; given = c .given; run = c .run; methods = n; done = [] }
+
+-- so many code lines are to come: they are counted with all others
+unfoldable pub linesCounted : State → ℕ → InModel
+linesCounted st n =
+    let m = st .model in
+    record { classes = m .classes; total = m .total + n; creations = m .creations; done = m .done }
+
+unfoldable pub linesBegun : State → ℕ → InMethod
+linesBegun st n =
+    let o = st .method in
+    record { params = o .params; locals = o .locals; lines = n; blocks = []; done = [] }
+
+-- what a number makes of the state: it takes its place, and `methods=` and `lines=` begin a list
 unfoldable pub numbered : Key → State → ℕ → State
 numbered Key.Creol st n = withModel st Key.Classes (st .model)
 numbered Key.Classes st n =
     let m = st .model in
     withModel st Key.Class (record { classes = n; total = m .total; creations = m .creations; done = m .done })
-numbered Key.Class st n = withClass st Key.Attrs freshClass
-numbered Key.Attrs st n = withClass st Key.Given (record { attrs = n; given = 0; run = 0; methods = 0; done = [] })
-numbered Key.Given st n = withClass st Key.Run (record { attrs = st .class .attrs; given = n; run = 0; methods = 0; done = [] })
+numbered Key.Class st n = withClass st Key.Attrs (st .class)
+numbered Key.Attrs st n =
+    let c = st .class in
+    withClass st Key.Given (record { attrs = n; given = c .given; run = c .run; methods = c .methods; done = c .done })
+numbered Key.Given st n =
+    let c = st .class in
+    withClass st Key.Run (record { attrs = c .attrs; given = n; run = c .run; methods = c .methods; done = c .done })
 numbered Key.Run st n =
     let c = st .class in
-    withClass st Key.Methods (record { attrs = c .attrs; given = c .given; run = n; methods = 0; done = [] })
-numbered Key.Methods st n =
-    let c = st .class in
-    nextMethod (withClass st Key.Method (record { attrs = c .attrs; given = c .given; run = c .run; methods = n; done = [] }))
-numbered Key.Method st n = withMethod st Key.Params freshMethod
-numbered Key.Params st n = withMethod st Key.Locals (record { params = n; locals = 0; lines = 0; blocks = []; done = [] })
-numbered Key.Locals st n = withMethod st Key.Lines (record { params = st .method .params; locals = n; lines = 0; blocks = []; done = [] })
-numbered Key.Lines st n =
-    let m = st .model in
+    withClass st Key.Methods (record { attrs = c .attrs; given = c .given; run = n; methods = c .methods; done = c .done })
+numbered Key.Methods st n = nextMethod (withClass st Key.Method (methodsBegun st n))
+numbered Key.Method st n = withMethod st Key.Params (st .method)
+numbered Key.Params st n =
     let o = st .method in
-    let counted : InModel = record { classes = m .classes; total = m .total + n; creations = m .creations; done = m .done } in
-    withMethod (withModel st Key.Code counted) Key.Code (record { params = o .params; locals = o .locals; lines = n; blocks = []; done = [] })
+    withMethod st Key.Locals (record { params = n; locals = o .locals; lines = o .lines; blocks = o .blocks; done = o .done })
+numbered Key.Locals st n =
+    let o = st .method in
+    withMethod st Key.Lines (record { params = o .params; locals = n; lines = o .lines; blocks = o .blocks; done = o .done })
+numbered Key.Lines st n = withMethod (withModel st Key.Code (linesCounted st n)) Key.Code (linesBegun st n)
 numbered Key.Code st n = st
 numbered Key.End st n = st
 
@@ -203,53 +192,40 @@ pub data Fed : Type 0 where
 
 -- "a number outside code: its form, its range, or the 512"
 unfoldable pub numberLine : State → Text → Fed
-numberLine st value = elim (numberIn (lowest (st .key) st) (highest (st .key) st) value) [
+numberLine st value = elim (numberIn (lowest (st .key) (counted st)) (highest (st .key) (counted st)) value) [
   | some n ↦ fed (numbered (st .key) st n)
   | none ↦ refused wrongNumber
 ]
 
--- the `new`s of a line
+-- the `new` of a line, if it is one
 unfoldable pub creationsOf : ℕ → Code → List Creation
-creationsOf at skip = []
-creationsOf at (set x a) = []
-creationsOf at (new x k es) = record { at = at; class = k; count = length es } ∷ []
-creationsOf at (call x a j es) = []
-creationsOf at (get x y) = []
-creationsOf at (await g) = []
-creationsOf at (if a) = []
-creationsOf at else = []
-creationsOf at fi = []
-creationsOf at (while a) = []
-creationsOf at od = []
-creationsOf at (return a) = []
+creationsOf at c = elim (newOf c) [ none ↦ [] | some n ↦ record { at = at; class = n .0; count = n .1 } ∷ [] ]
 
--- the line being read is the method's last
-unfoldable pub isLast : State → Bool
-isLast st = eqb (length (st .method .done) + 1) (st .method .lines)
-
--- "A method's last line is a `return` outside all blocks." Any other line leaves at most eight blocks open
-unfoldable pub mayStand : State → Shape → List Block → Bool
-mayStand st shape open-blocks = elim (isLast st) [
-  | true ↦ isShape Shape.Return shape && eqb (length open-blocks) 0
-  | false ↦ leb (length open-blocks) deepest
-]
-
--- what a statement makes of the state, with the blocks that are open after it
-unfoldable pub stated : ℕ → State → Code → List Block → State
-stated at st c open-blocks =
-    let m = st .model in
+-- a statement joins its method, with the blocks that are open after it
+unfoldable pub codeJoined : State → Code → List Block → InMethod
+codeJoined st c open-blocks =
     let o = st .method in
-    let counted : InModel =
-    record { classes = m .classes; total = m .total; creations = m .creations ++ creationsOf at c; done = m .done } in
-    let longer : InMethod =
-    record { params = o .params; locals = o .locals; lines = o .lines; blocks = open-blocks; done = o .done ++ (c ∷ []) } in
-    let after = withMethod (withModel st Key.Code counted) Key.Code longer in
-    elim (isLast st) [ true ↦ methodClosed after | false ↦ after ]
+    record { params = o .params; locals = o .locals; lines = o .lines; blocks = open-blocks; done = o .done ++ (c ∷ []) }
+
+unfoldable pub creationsJoined : ℕ → State → Code → InModel
+creationsJoined at st c =
+    let m = st .model in
+    record { classes = m .classes; total = m .total; creations = m .creations ++ creationsOf at c; done = m .done }
+
+unfoldable pub lineJoined : ℕ → State → Code → List Block → State
+lineJoined at st c open-blocks = withMethod (withModel st Key.Code (creationsJoined at st c)) Key.Code (codeJoined st c open-blocks)
+
+-- what a statement makes of the state
+unfoldable pub stated : ℕ → State → Code → List Block → State
+stated at st c open-blocks = elim (isLast (counted st)) [
+  | true ↦ methodClosed (lineJoined at st c open-blocks)
+  | false ↦ lineJoined at st c open-blocks
+]
 
 unfoldable pub blockLine : ℕ → State → Code → Fed
 blockLine at st c = elim (through (shapeOf c) (st .method .blocks)) [
   | none ↦ refused wrongBlocks
-  | some open-blocks ↦ elim (mayStand st (shapeOf c) open-blocks) [
+  | some open-blocks ↦ elim (mayStand (counted st) (shapeOf c) open-blocks) [
     | true ↦ fed (stated at st c open-blocks)
     | false ↦ refused wrongBlocks
   ]

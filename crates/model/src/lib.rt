@@ -1,8 +1,11 @@
 // The verdict on a model text, and the table that later parts find its lines by.
 
+pub mod automaton;
 pub mod keys;
 pub mod lines;
 pub mod numbers;
+pub mod ranges;
+pub mod table;
 
 // A number given back, with the line of the text that it names: 0 where it names none.
 pub struct Verdict {
@@ -27,8 +30,45 @@ pub enum Key {
     End,
 }
 
+// What was counted of the model: its classes, all `lines=` together, the `new` lines, and the classes that are whole.
+pub struct ModelCounts {
+    pub classes: u32,
+    pub total: u32,
+    pub creations: u32,
+    pub read: u32,
+}
+
+// What was counted of the class being read, and its methods that are whole.
+pub struct ClassCounts {
+    pub attrs: u32,
+    pub given: u32,
+    pub run: u32,
+    pub methods: u32,
+    pub read: u32,
+}
+
+// What was counted of the method being read, its code lines so far, and its open blocks as one number.
+pub struct MethodCounts {
+    pub params: u32,
+    pub locals: u32,
+    pub lines: u32,
+    pub read: u32,
+    pub blocks: u32,
+}
+
+// The automaton's state by value: the key that comes next, and the counts.
+pub struct Counts {
+    pub key: Key,
+    pub model: ModelCounts,
+    pub class: ClassCounts,
+    pub method: MethodCounts,
+}
+
 // A value as a number within its range, or none: "its form, its range".
 pub enum NumberLine {
     Is(u32),
     Bad,
 }
+
+// A row of the table: four numbers.
+pub struct Row(pub u32, pub u32, pub u32, pub u32);

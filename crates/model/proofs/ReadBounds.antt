@@ -1,0 +1,89 @@
+-- The range of what was read: a number's, and where a key ends. Assumes nothing.
+use Prim.Native.Nat.{ℕ, _+_, _≤_, _<_}
+use mathlib.Core.Bool.{Bool, true, false, false≢true}
+use mathlib.Core.List.{[], _∷_}
+use mathlib.Core.Option.{some}
+use mathlib.Core.Path.{_≡_, refl, sym, _∙_}
+use native.Mathlib.Omega.{arith}
+use borrow.Author.Tests.{ltb-true, leb-true, leb-false, eqb-true, eqb-false}
+use lib.Dec.{leb, ltb, eqb}
+use lib.ListN.{length}
+use Rattle.terms.specs.Bytes.{Text, byteAt}
+use Rattle.terms.specs.Leaves.{decimal}
+use Rattle.terms.specs.Parsed.{Parsed, got, bad, word}
+use Rattle.terms.proofs.Digits.{decimal-below}
+use Rattle.terms.proofs.Moving.{within-text, no-got, same-place, word-yes, word-no, word-none}
+use Rattle.model.specs.Keys.{nameOf}
+use Rattle.model.specs.Numbers.{numberIn}
+use Rattle.model.specs.declared.Key.{Key}
+use Rattle.model.specs.declared.Key.the-variants as Key
+use Rattle.model.proofs.NumberLines.{number-none, number-longer, number-below, number-within}
+
+-- a number line is from its lowest to its highest
+pub number-range : (least most : ℕ) (value : Text) (n : ℕ) → numberIn least most value ≡ some n → (least ≤ n) × (n ≤ most)
+number-range least most value n e = go (decimal most value 0) refl
+  where
+    go : (q : Parsed ℕ) → decimal most value 0 ≡ q → (least ≤ n) × (n ≤ most)
+    go (bad at) f = let c = number-none least most value at f in absurd (let z : _≡_ {A = ℕ} 0 1 = cc in omega arith)
+    go (got at k) f = test (eqb at (length value)) refl (leb least k) refl
+      where
+        test : (t : Bool) → eqb at (length value) ≡ t → (u : Bool) → leb least k ≡ u → (least ≤ n) × (n ≤ most)
+        test true t true u =
+            let l = leb-true _ _ u in
+            let c = number-within least most value at k f (eqb-true _ _ t) l in
+            let g : k ≡ n = cc in
+            let m = decimal-below most value 0 at k f in
+            (omega arith, omega arith)
+        test true t false u =
+            let c = number-below least most value at k f (eqb-true _ _ t) (leb-false _ _ u) in
+            absurd (let z : _≡_ {A = ℕ} 0 1 = cc in omega arith)
+        test false t u v =
+            let c = number-longer least most value at k f (eqb-false _ _ t) in
+            absurd (let z : _≡_ {A = ℕ} 0 1 = cc in omega arith)
+
+-- no byte of a word is 0, which is what stands past the end
+unfoldable pub allPositive : Text → Bool
+allPositive [] = true
+allPositive (b ∷ w) = elim (ltb 0 b) [ true ↦ allPositive w | false ↦ false ]
+
+positive-first : (b : ℕ) (w : Text) → allPositive (b ∷ w) ≡ true → (0 < b) × (allPositive w ≡ true)
+unfolding allPositive
+positive-first b w h = go (ltb 0 b) refl
+  where
+    go : (t : Bool) → ltb 0 b ≡ t → (0 < b) × (allPositive w ≡ true)
+    go true e = (ltb-true 0 b e, rw (allPositive, e) at h)
+    go false e = absurd (false≢true (rw (allPositive, e) at h))
+
+-- so a word that was read ends within the text
+pub word-within : (w s : Text) (at p : ℕ) (u : Unit {0}) → allPositive w ≡ true → at ≤ length s → word w s at ≡ got p u → p ≤ length s
+word-within [] s at p u h l e = let f = same-place at p tt u (sym (word-none s at) ∙ e) in omega arith
+word-within (b ∷ w) s at p u h l e = go (eqb (byteAt s at) b) refl (word-within w s (at + 1) p u)
+  where
+    go : (t : Bool) → eqb (byteAt s at) b ≡ t → (allPositive w ≡ true → at + 1 ≤ length s → word w s (at + 1) ≡ got p u → p ≤ length s)
+        → p ≤ length s
+    go false f rest = absurd (no-got at p u (sym (word-no b w s at f) ∙ e))
+    go true f rest =
+        let k = positive-first b w h in
+        let n = within-text s at b (eqb-true _ _ f) (k .0) in
+        rest (k .1) (omega arith) (sym (word-yes b w s at f) ∙ e)
+
+-- no name of a key has a 0
+name-positive : (k : Key) → allPositive (nameOf k) ≡ true
+unfolding allPositive nameOf
+name-positive Key.Creol = refl
+name-positive Key.Classes = refl
+name-positive Key.Class = refl
+name-positive Key.Attrs = refl
+name-positive Key.Given = refl
+name-positive Key.Run = refl
+name-positive Key.Methods = refl
+name-positive Key.Method = refl
+name-positive Key.Params = refl
+name-positive Key.Locals = refl
+name-positive Key.Lines = refl
+name-positive Key.Code = refl
+name-positive Key.End = refl
+
+-- a key that was read ends within the line
+pub key-within : (k : Key) (s : Text) (p : ℕ) (u : Unit {0}) → word (nameOf k) s 0 ≡ got p u → p ≤ length s
+key-within k s p u e = word-within (nameOf k) s 0 p u (name-positive k) (omega arith) e

@@ -1,0 +1,91 @@
+-- A row that is put stands in its own place alone, and what holds of each item of a list. Assumes nothing.
+use Prim.Native.Nat.{ℕ, zero, suc, _+_, _*_, _≤_, _<_}
+use mathlib.Core.List.{List, [], _∷_, _++_}
+use mathlib.Core.Option.{some}
+use mathlib.Core.Path.{_≡_, subst, _∙_}
+use native.Mathlib.Nat.{add-zero}
+use native.Mathlib.Omega.{arith}
+use lib.ListN.{length, getD, set, getElem?, length-set, length-append}
+use lib.Seq.{getD-set-same, getD-set-other}
+use Rattle.model.specs.Table.{Table, width, rows, size, rowOf, put, Rows}
+use Rattle.model.specs.declared.Row.{Row}
+
+-- rows of the same numbers are the same
+row-same : (x y : Row) → x .0 ≡ y .0 → x .1 ≡ y .1 → x .2 ≡ y .2 → x .3 ≡ y .3 → x ≡ y
+row-same x y e₀ e₁ e₂ e₃ = rw (e₀, e₁, e₂, e₃)
+
+module _ (t : Table) (r : ℕ) (x : Row) where
+  pub put-length : length (put t r x) ≡ length t
+  unfolding put
+  put-length = simp length-set
+
+  -- a row that was put stands in its place
+  pub row-own : length t ≡ size → r < rows → rowOf (put t r x) r ≡ x
+  unfolding rowOf put
+  row-own l h =
+      let at = r * width in
+      let t₀ = set t at (x .0) in
+      let t₁ = set t₀ (at + 1) (x .1) in
+      let t₂ = set t₁ (at + 2) (x .2) in
+      let l₀ : length t₀ ≡ size = simp length-set l in
+      let l₁ : length t₁ ≡ size = simp length-set l in
+      let l₂ : length t₂ ≡ size = simp length-set l in
+      row-same _ x
+      (getD-set-other t₂ (at + 3) at (x .3) 0 (λ e. omega arith)
+      ∙ getD-set-other t₁ (at + 2) at (x .2) 0 (λ e. omega arith)
+      ∙ getD-set-other t₀ (at + 1) at (x .1) 0 (λ e. omega arith)
+      ∙ getD-set-same t at (x .0) 0 (omega arith))
+      (getD-set-other t₂ (at + 3) (at + 1) (x .3) 0 (λ e. omega arith)
+      ∙ getD-set-other t₁ (at + 2) (at + 1) (x .2) 0 (λ e. omega arith)
+      ∙ getD-set-same t₀ (at + 1) (x .1) 0 (omega arith))
+      (getD-set-other t₂ (at + 3) (at + 2) (x .3) 0 (λ e. omega arith) ∙ getD-set-same t₁ (at + 2) (x .2) 0 (omega arith))
+      (getD-set-same t₂ (at + 3) (x .3) 0 (omega arith))
+
+  -- a number outside the row
+  number-other : (j : ℕ) → ((i : ℕ) → i < width → j ≡ r * width + i → ⊥) → getD (put t r x) j 0 ≡ getD t j 0
+  unfolding put
+  number-other j n =
+      let at = r * width in
+      let t₀ = set t at (x .0) in
+      let t₁ = set t₀ (at + 1) (x .1) in
+      let t₂ = set t₁ (at + 2) (x .2) in
+      getD-set-other t₂ (at + 3) j (x .3) 0 (n 3 (omega arith))
+      ∙ getD-set-other t₁ (at + 2) j (x .2) 0 (n 2 (omega arith))
+      ∙ getD-set-other t₀ (at + 1) j (x .1) 0 (n 1 (omega arith))
+      ∙ getD-set-other t at j (x .0) 0 (λ e. n 0 (omega arith) (omega arith))
+
+  -- every other row is as it was
+  pub row-other : (q : ℕ) → (r ≡ q → ⊥) → rowOf (put t r x) q ≡ rowOf t q
+  unfolding rowOf
+  row-other q n =
+      row-same _ _
+      (number-other (q * width) (λ i l e. n (omega arith)))
+      (number-other (q * width + 1) (λ i l e. n (omega arith)))
+      (number-other (q * width + 2) (λ i l e. n (omega arith)))
+      (number-other (q * width + 3) (λ i l e. n (omega arith)))
+
+pub append-length : {A : Type 0} (xs : List A) (x : A) → length (xs ++ (x ∷ [])) ≡ length xs + 1
+append-length xs x = length-append xs (x ∷ [])
+
+-- one item more
+pub rows-append : {A : Type 0} (P : ℕ → A → Type 0) (n : ℕ) (xs : List A) (x : A) → Rows P n xs → P (n + length xs) x → Rows P n (xs ++ (x ∷ []))
+unfolding Rows
+rows-append P n [] x h p = (subst (λ i. P i x) (add-zero n) p, tt)
+rows-append P n (y ∷ xs) x h p = (h .0, rows-append P (suc n) xs x (h .1) (subst (λ i. P i x) (omega arith) p))
+
+-- what follows of each item, within the list
+pub rows-keep : {A : Type 0} (P Q : ℕ → A → Type 0) (n : ℕ) (xs : List A)
+    → ((i : ℕ) (x : A) → n ≤ i → i < n + length xs → P i x → Q i x) → Rows P n xs → Rows Q n xs
+unfolding Rows
+rows-keep P Q n [] k h = tt
+rows-keep P Q n (x ∷ xs) k h = (
+  k n x (omega arith) (omega arith) (h .0),
+  rows-keep P Q (suc n) xs (λ i y l m. k i y (omega arith) (omega arith)) (h .1),
+)
+
+-- an item by its place
+pub rows-at : {A : Type 0} (P : ℕ → A → Type 0) (n : ℕ) (xs : List A) (i : ℕ) (x : A) → Rows P n xs → getElem? xs i ≡ some x → P (n + i) x
+unfolding Rows
+rows-at P n [] i x h e = absurd (let z : _≡_ {A = ℕ} 0 1 = cc in omega arith)
+rows-at P n (y ∷ xs) zero x h e = let f : y ≡ x = cc in rw (add-zero n, ← f) (h .0)
+rows-at P n (y ∷ xs) (suc i) x h e = subst (λ j. P j x) (omega arith) (rows-at P (suc n) xs i x (h .1) e)

@@ -1,0 +1,44 @@
+-- Which table belongs to which text: what its rows tell of each class, method, code line and `new`. Assumes nothing.
+use Prim.Native.Nat.{ℕ, _+_, _≤_}
+use mathlib.Core.Path.{_≡_}
+use lib.ListN.{length, take, drop}
+use Rattle.terms.specs.Bytes.{Text}
+use Rattle.terms.specs.declared.Limits.{Limits}
+use Rattle.terms.specs.Parsed.{got}
+use Rattle.terms.specs.Trees.{trees, guardTrees}
+use Rattle.code.specs.Reader.{statement}
+use Rattle.code.specs.Statements.{Code}
+use Rattle.model.specs.declared.Row.{Row}
+use Rattle.model.specs.Counts.{allLines, mostMethods}
+use Rattle.model.specs.Model.{Method, Class, Model}
+use Rattle.model.specs.Table.{Table, rowOf, classRow, methodRow, codeRow, Rows}
+
+-- the bytes of a code value, by its row: the place where it begins in the text, and its length
+unfoldable pub valueIn : Text → Row → Text
+valueIn s r = take (r .1) (drop (r .0) s)
+
+-- a text, how many classes it has, its table, and how many code lines the table tells
+module _ (s : Text) (classes : ℕ) (t : Table) (filled : ℕ) where
+  -- a code line: what its row leads to in the text is this statement
+  unfoldable pub CodeTold : Limits → ℕ → Code → Type 0
+  CodeTold lim i c =
+      let r = rowOf t (codeRow i) in
+      (r .0 + r .1 ≤ length s) × (statement trees guardTrees lim classes (valueIn s r) ≡ got (r .1) c)
+
+  -- a method: its counts, and the number of its first code line
+  unfoldable pub MethodTold : ℕ → ℕ → ℕ → Method → Type 0
+  MethodTold attrs k j m =
+      let r = rowOf t (methodRow k j) in
+      (r .0 ≡ m .params) × (r .1 ≡ m .locals) × (r .2 ≡ length (m .code)) × (r .3 + length (m .code) ≤ filled)
+      × Rows (CodeTold (record { attrs = attrs; locals = m .locals })) (r .3) (m .code)
+
+  -- a class: its counts, and its methods
+  unfoldable pub ClassTold : ℕ → Class → Type 0
+  ClassTold k c =
+      let r = rowOf t (classRow k) in
+      (r .0 ≡ c .attrs) × (r .1 ≡ c .given) × (r .2 ≡ c .run) × (r .3 ≡ length (c .methods)) × (length (c .methods) ≤ mostMethods)
+      × Rows (MethodTold (c .attrs) k) 0 (c .methods)
+
+-- a table belongs to a text that gives a model: it tells each of its classes
+unfoldable pub Belongs : Text → Table → Model → Type 0
+Belongs s t m = Rows (ClassTold s (length m) t allLines) 0 m

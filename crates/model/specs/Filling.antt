@@ -1,0 +1,114 @@
+-- How the table is filled while the text is read, and what it tells of a state of the automaton. Assumes nothing.
+use Prim.Native.Nat.{ℕ, _+_, _-_, _≤_, _<_}
+use mathlib.Core.Bool.{true, false}
+use mathlib.Core.List.{[]}
+use mathlib.Core.Option.{Option, none, some}
+use mathlib.Core.Path.{_≡_}
+use lib.Dec.{ltb}
+use lib.ListN.{length}
+use Rattle.terms.specs.Bytes.{Text}
+use Rattle.model.specs.declared.Counts.{Counts}
+use Rattle.model.specs.declared.Key.{Key}
+use Rattle.model.specs.declared.Key.the-variants as Key
+use Rattle.model.specs.Automaton.{Creation, State, limitsOf}
+use Rattle.model.specs.Belonging.{CodeTold, MethodTold, ClassTold}
+use Rattle.model.specs.Counts.{mostClasses, mostMethods, mostLines, allLines, deepest, isLast}
+use Rattle.model.specs.Table.{Table, rowOf, put, classRow, methodRow, codeRow, creationRow, size, Rows}
+
+-- the number of the code line being read, among those of all methods: the method's first, and how many of its lines were read
+unfoldable pub firstLine : Counts → ℕ
+firstLine c = c .model .total - c .method .lines
+
+unfoldable pub thisLine : Counts → ℕ
+thisLine c = firstLine c + c .method .read
+
+-- the row of the code line being read: the place and the length of its value
+unfoldable pub codePut : Counts → ℕ → ℕ → Table → Table
+codePut c place long t = put t (codeRow (thisLine c)) (record { 0 = place; 1 = long; 2 = 0; 3 = 0 })
+
+-- the row of its `new`, if it is one: the line of the text, the class, and how many arguments there are
+unfoldable pub creationPut : Counts → ℕ → Option (ℕ × ℕ) → Table → Table
+creationPut c at none t = t
+creationPut c at (some n) t = put t (creationRow (c .model .creations)) (record { 0 = at; 1 = n .0; 2 = n .1; 3 = 0 })
+
+-- the row of the method being read, at its last line
+unfoldable pub methodPut : Counts → Table → Table
+methodPut c t = elim (isLast c) [
+  | true ↦ put t (methodRow (c .model .read) (c .class .read)) (record { 0 = c .method .params; 1 = c .method .locals; 2 = c .method .lines; 3 = firstLine c })
+  | false ↦ t
+]
+
+-- the row of the class being read, at the line that makes it whole
+unfoldable pub classPut : Counts → Counts → Table → Table
+classPut before after t = elim (ltb (before .model .read) (after .model .read)) [
+  | true ↦ put t (classRow (before .model .read)) (record { 0 = after .class .attrs; 1 = after .class .given; 2 = after .class .run; 3 = after .class .read })
+  | false ↦ t
+]
+
+-- all rows of a code line
+unfoldable pub linePut : Counts → Counts → ℕ → ℕ → ℕ → Option (ℕ × ℕ) → Table → Table
+linePut before after at place long new t = classPut before after (methodPut before (creationPut before at new (codePut before place long t)))
+
+-- a creation, by its row
+unfoldable pub CreationTold : Table → ℕ → Creation → Type 0
+CreationTold t i n =
+    let r = rowOf t (creationRow i) in
+    (r .0 ≡ n .at) × (r .1 ≡ n .class) × (r .2 ≡ n .count)
+
+-- where in the text a key stands
+pub data Part : Type 0 where
+  atStart inClass inMethod inCode atEnd : Part
+
+unfoldable pub partOf : Key → Part
+partOf Key.Creol = atStart
+partOf Key.Classes = atStart
+partOf Key.Class = inClass
+partOf Key.Attrs = inClass
+partOf Key.Given = inClass
+partOf Key.Run = inClass
+partOf Key.Methods = inClass
+partOf Key.Method = inMethod
+partOf Key.Params = inMethod
+partOf Key.Locals = inMethod
+partOf Key.Lines = inMethod
+partOf Key.Code = inCode
+partOf Key.End = atEnd
+
+-- how many code lines the whole methods have, and how many were read in all
+unfoldable pub whole : Part → Counts → ℕ
+whole atStart c = c .model .total
+whole inClass c = c .model .total
+whole inMethod c = c .model .total
+whole inCode c = firstLine c
+whole atEnd c = c .model .total
+
+unfoldable pub reached : Part → Counts → ℕ
+reached atStart c = c .model .total
+reached inClass c = c .model .total
+reached inMethod c = c .model .total
+reached inCode c = thisLine c
+reached atEnd c = c .model .total
+
+-- what is known of the part being read
+unfoldable pub PartHeld : Part → Text → Table → State → Counts → Type 0
+PartHeld atStart s t st c = st .model .done ≡ []
+PartHeld inClass s t st c = c .model .read < c .model .classes
+PartHeld inMethod s t st c =
+    (c .model .read < c .model .classes) × (c .class .read < c .class .methods) × (c .class .methods ≤ mostMethods)
+    × Rows (MethodTold s (c .model .classes) t (c .model .total) (c .class .attrs) (c .model .read)) 0 (st .class .done)
+PartHeld inCode s t st c =
+    (c .model .read < c .model .classes) × (c .class .read < c .class .methods) × (c .class .methods ≤ mostMethods)
+    × Rows (MethodTold s (c .model .classes) t (firstLine c) (c .class .attrs) (c .model .read)) 0 (st .class .done)
+    × (c .method .read < c .method .lines) × (c .method .lines ≤ mostLines) × (c .method .lines ≤ c .model .total) × (length (st .method .blocks) ≤ deepest)
+    × Rows (CodeTold s (c .model .classes) t (thisLine c) (limitsOf st)) (firstLine c) (st .method .done)
+PartHeld atEnd s t st c = c .model .read ≡ c .model .classes
+
+-- what is known of a state by its table
+pub record Held (s : Text) (t : Table) (st : State) (c : Counts) : Type 0 where
+  pub all : length t ≡ size
+  pub classes : c .model .classes ≤ mostClasses
+  pub lines : c .model .total ≤ allLines
+  pub news : c .model .creations ≤ reached (partOf (c .key)) c
+  pub told : Rows (ClassTold s (c .model .classes) t (whole (partOf (c .key)) c)) 0 (st .model .done)
+  pub creations : Rows (CreationTold t) 0 (st .model .creations)
+  pub part : PartHeld (partOf (c .key)) s t st c

@@ -1,0 +1,47 @@
+-- The table of a text, by which later parts find its lines: a list of numbers, in rows of four. Assumes nothing.
+use Prim.Native.Nat.{ℕ, suc, _+_, _*_}
+use mathlib.Core.List.{List, [], _∷_}
+use lib.ListN.{getD, set}
+use Rattle.model.specs.declared.Row.{Row}
+
+abbrev pub Table : Type 0
+Table = List ℕ
+
+abbrev pub width : ℕ
+width = 4
+
+-- a row for each of 16 classes
+abbrev pub classRow : ℕ → ℕ
+classRow k = k
+
+-- then a row for each of the 8 methods that a class may have
+abbrev pub methodRow : ℕ → ℕ → ℕ
+methodRow k j = 16 + 8 * k + j
+
+-- then a row for each of 512 code lines: "All `lines=` together are at most 512."
+abbrev pub codeRow : ℕ → ℕ
+codeRow i = 144 + i
+
+-- then a row for each creation, of which a code line has at most one
+abbrev pub creationRow : ℕ → ℕ
+creationRow i = 656 + i
+
+abbrev pub rows : ℕ
+rows = 1168
+
+-- the numbers of all rows
+abbrev pub size : ℕ
+size = 4672
+
+-- the four numbers of a row; a number that is not there reads as 0
+unfoldable pub rowOf : Table → ℕ → Row
+rowOf t r = record { 0 = getD t (r * width) 0; 1 = getD t (r * width + 1) 0; 2 = getD t (r * width + 2) 0; 3 = getD t (r * width + 3) 0 }
+
+unfoldable pub put : Table → ℕ → Row → Table
+put t r x =
+    set (set (set (set t (r * width) (x .0)) (r * width + 1) (x .1)) (r * width + 2) (x .2)) (r * width + 3) (x .3)
+
+-- what holds of each item of a list, with its number, counted on from one
+unfoldable pub Rows : {A : Type 0} → (ℕ → A → Type 0) → ℕ → List A → Type 0
+Rows P n [] = Unit {0}
+Rows P n (x ∷ xs) = P n x × Rows P (suc n) xs
