@@ -15,7 +15,7 @@ unfolding terms-open Answers.asForm Answers.noArguments Answers.withOne Answers.
     Answers.argumentsOf Answers.refusedAt Answers.asCode Answers.finished Blocks.shapeOf Blocks.shapeNumber Blocks.shapeAt
     Blocks.shapesIn Blocks.isShape Blocks.rank Blocks.closing Blocks.opening Blocks.without Blocks.with Blocks.through
     Blocks.throughAll Blocks.allClosed Blocks.balanced Counting.present Counting.counted Counting.onward Counting.backward
-    Creating.newOf Creating.newSaid OpenBlocks.digit OpenBlocks.packed OpenBlocks.asBlocks OpenBlocks.shapeSaid
+    Creating.newOf Creating.newSaid Creating.asNew OpenBlocks.digit OpenBlocks.packed OpenBlocks.asBlocks OpenBlocks.shapeSaid
     Partners.sameBlock Partners.fits Partners.linesBetween Partners.partners Partners.firstFrom Partners.lastBelow Partners.orEnd
     Partners.ahead Partners.behind Partners.goesFrom Partners.goesTo Reader.wordOf Reader.beginning Reader.formOf Reader.comma
     Reader.operand Reader.listed Reader.arguments Reader.target Reader.rest Reader.statement Readers.listedRead Statements.mapStatement

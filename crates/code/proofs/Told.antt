@@ -22,12 +22,13 @@ use Rattle.terms.specs.Trees.{trees, guardTrees}
 use Rattle.terms.specs.Values.{valueOf, guardOf}
 use Rattle.code.specs.declared.Arguments.{Arguments}
 use Rattle.code.specs.declared.Form.{Form}
+use Rattle.code.specs.declared.NewFound.the-variants as New
 use Rattle.code.specs.declared.ReadCode.{ReadCode}
 use Rattle.code.specs.declared.ReadStatement.the-variants as Read
 use Rattle.code.specs.declared.Statement as Declared
 use Rattle.code.specs.Answers.{noArguments, withOne, gathered, asStatement, argumentsOf, refusedAt, asCode}
 use Rattle.code.specs.Blocks.{shapeOf}
-use Rattle.code.specs.Creating.{newOf, newSaid}
+use Rattle.code.specs.Creating.{newOf, newSaid, asNew}
 use Rattle.code.specs.OpenBlocks.{shapeSaid}
 use Rattle.code.specs.Reader.{wordOf, formOf, rest, statement}
 use Rattle.code.specs.Readers.{statementRead}
@@ -63,6 +64,17 @@ new-said fi = refl
 new-said (while a) = refl
 new-said od = refl
 new-said (return a) = refl
+
+-- what the code gives for the class and the number of arguments tells them
+pub nothing-told : (o : Option (ℕ × ℕ)) → asNew o ≡ New.Nothing → o ≡ none
+unfolding asNew
+nothing-told none e = refl
+nothing-told (some m) e = cc
+
+pub is-told : (o : Option (ℕ × ℕ)) (k n : ℕ) → asNew o ≡ New.Is k n → o ≡ some (k, n)
+unfolding asNew
+is-told none k n e = cc
+is-told (some (j, m)) k n e = cc
 
 pub new-mapped : {A B G H : Type 0} (h : A → B) (k : G → H) (st : Statement A G) → newOf (mapStatement h k st) ≡ newOf st
 unfolding newOf mapStatement

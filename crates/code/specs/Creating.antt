@@ -2,6 +2,8 @@
 use Prim.Native.Nat.{ℕ}
 use mathlib.Core.Option.{Option, none, some}
 use lib.ListN.{length}
+use Rattle.code.specs.declared.NewFound.{NewFound}
+use Rattle.code.specs.declared.NewFound.the-variants as New
 use Rattle.code.specs.declared.Statement as Declared
 use Rattle.code.specs.declared.Statement.the-variants as Said
 use Rattle.code.specs.Statements.{Statement, skip, set, new, call, get, await, if, else, fi, while, od, return}
@@ -34,3 +36,8 @@ newSaid Said.Fi n = none
 newSaid (Said.While a) n = none
 newSaid Said.Od n = none
 newSaid (Said.Return a) n = none
+
+-- what the code gives for the class and the number of arguments
+unfoldable pub asNew : Option (ℕ × ℕ) → NewFound
+asNew none = New.Nothing
+asNew (some n) = New.Is (n .0) (n .1)

@@ -4,6 +4,7 @@ use terms::Variable;
 use whole::Worked;
 
 pub mod blocks;
+pub mod creating;
 pub mod partners;
 pub mod statements;
 
@@ -91,4 +92,10 @@ pub enum Shape {
 pub enum BlocksAfter {
     Open(u32),
     Unmatched,
+}
+
+// The class of a `new` and how many arguments it has, or none where a statement is no `new`.
+pub enum NewFound {
+    Is(u32, usize),
+    Nothing,
 }
