@@ -7,6 +7,7 @@ pub mod Gathering
 pub mod Going
 pub mod Listing
 pub mod Matching
+pub mod NewCounts
 pub mod Open
 pub mod OpenBlocks
 pub mod Respect

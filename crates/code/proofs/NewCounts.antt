@@ -1,0 +1,132 @@
+-- A `new` has at most one argument more than its text has bytes. Assumes nothing.
+use Prim.Native.Nat.{ℕ, zero, suc, _+_, _≤_}
+use Prim.Native.Char.{code}
+use mathlib.Core.Bool.{Bool, true, false}
+use mathlib.Core.List.{List, [], _∷_, _++_}
+use mathlib.Core.Option.{Option, none, some}
+use mathlib.Core.Path.{_≡_, refl, sym, ap, subst, _∙_}
+use native.Mathlib.Omega.{arith}
+use lib.Dec.{eqb}
+use lib.ListN.{length, length-append}
+use Rattle.terms.specs.declared.Limits.{Limits}
+use Rattle.terms.specs.Bytes.{Text, byteAt}
+use Rattle.terms.specs.Expressions.{Reading}
+use Rattle.terms.specs.Guards.{GuardReading}
+use Rattle.terms.specs.Parsed.{Parsed, got, bad, next, mapped, word, ended, repeated, joining}
+use Rattle.terms.proofs.Following.{next-mapped, repeated-none, repeated-some, joining-none, joining-some}
+use Rattle.code.specs.declared.Form.{Form}
+use Rattle.code.specs.declared.Form.the-variants as Form
+use Rattle.code.specs.Creating.{newOf}
+use Rattle.code.specs.Reader.{wordOf, formOf, comma, operand, listed, arguments, rest, statement}
+use Rattle.code.specs.Statements.{Statement, skip, set, new, call, get, await, if, else, fi, while, od, return}
+
+-- what was read, if anything was, has a property
+abbrev Gives : {A : Type 0} → (A → Type 0) → Parsed A → Type 0
+Gives P (got at a) = P a
+Gives P (bad at) = Unit
+
+gives-of : {A : Type 0} (P : A → Type 0) (q : Parsed A) (p : ℕ) (a : A) → q ≡ got p a → Gives P q → P a
+gives-of P q p a e h = subst (Gives P) e h
+
+-- a property goes past readings that follow one another, past maps and past the end of the text
+gives-next : {A B : Type 0} (P : B → Type 0) (q : Parsed A) (k : ℕ → A → Parsed B) → ((at : ℕ) (a : A) → Gives P (k at a)) → Gives P (next q k)
+unfolding next
+gives-next P (got at a) k h = h at a
+gives-next P (bad at) k h = tt
+
+gives-mapped : {A B : Type 0} (Q : A → Type 0) (P : B → Type 0) (h : A → B) (q : Parsed A) → ((a : A) → Q a → P (h a)) → Gives Q q → Gives P (mapped h q)
+unfolding mapped
+gives-mapped Q P h (got at a) f g = f a g
+gives-mapped Q P h (bad at) f g = tt
+
+gives-any : {A : Type 0} (q : Parsed A) → Gives (λ _. Unit {0}) q
+gives-any (got at a) = tt
+gives-any (bad at) = tt
+
+gives-ended : {A : Type 0} (P : A → Type 0) (s : Text) (q : Parsed A) → Gives P q → Gives P (ended s q)
+unfolding ended
+gives-ended P s (got at a) h = go (eqb at (length s))
+  where
+    go : (t : Bool) → Gives P (elim t [ true ↦ got at a | false ↦ bad at ])
+    go true = h
+    go false = tt
+gives-ended P s (bad at) h = tt
+
+-- each round of a list appends one argument
+module _ {A : Type 0} (s : Text) (item : ℕ → Parsed A) where
+  abbrev appending : ℕ → List A → Option (Parsed (List A))
+  appending = joining comma (λ _ es e. es ++ (e ∷ [])) s item
+
+  gives-repeated : (n more at : ℕ) (es : List A) → length es + more ≤ n → Gives (λ (ws : List A). length ws ≤ n) (repeated appending more at es)
+  gives-repeated n zero at es h = unfold repeated in omega arith
+  gives-repeated n (suc more) at es h = go (comma (byteAt s at)) refl (gives-repeated n more)
+    where
+      go : (o : Option (Unit {0})) → comma (byteAt s at) ≡ o
+          → ((at : ℕ) (es : List A) → length es + more ≤ n → Gives (λ (ws : List A). length ws ≤ n) (repeated appending more at es))
+          → Gives (λ (ws : List A). length ws ≤ n) (repeated appending (suc more) at es)
+      go none e later =
+          subst (Gives (λ (ws : List A). length ws ≤ n)) (sym (repeated-none appending more at es (joining-none comma _ s item at es e))) (omega arith)
+      go (some o) e later =
+          subst (Gives (λ (ws : List A). length ws ≤ n))
+          (sym (repeated-some appending more at es _ (joining-some comma _ s item at es o e) ∙ next-mapped (λ e. es ++ (e ∷ [])) (item (at + 1)) _))
+          (gives-next _ (item (at + 1)) _ (λ p e. later p (es ++ (e ∷ [])) (omega (arith, length-append es (e ∷ [])))))
+
+module _ {A G : Type 0} (R : Reading A) (Q : GuardReading A G) (lim : Limits) (classes : ℕ) (s : Text) where
+  gives-listed : (more at : ℕ) → Gives (λ (es : List A). length es ≤ more + 1) (listed R Q lim classes s more at)
+  unfolding listed
+  gives-listed more at = gives-next _ (operand R Q lim classes s at) _ (λ p a. gives-repeated s _ (more + 1) more p (a ∷ []) (omega arith))
+
+  gives-arguments : (more at : ℕ) → Gives (λ (es : List A). length es ≤ more + 1) (arguments R Q lim classes s more at)
+  unfolding arguments
+  gives-arguments more at = go (eqb (byteAt s at) (code " "))
+    where
+      go : (t : Bool) → Gives (λ (es : List A). length es ≤ more + 1) (elim t [ true ↦ listed R Q lim classes s more (at + 1) | false ↦ got at [] ])
+      go true = gives-listed more (at + 1)
+      go false = omega arith
+
+  -- a statement that is a `new` has at most one argument more than the text has bytes
+  abbrev Small : Statement A G → Type 0
+  Small st = (m : ℕ × ℕ) → newOf st ≡ some m → m .1 ≤ length s + 1
+
+  no-new : (st : Statement A G) → newOf st ≡ none → Small st
+  no-new st e m f = absurd (let z : _≡_ {A = ℕ} 0 1 = cc in omega arith)
+
+  one-new : (st : Statement A G) (k l : ℕ) → newOf st ≡ some (k, l) → l ≤ length s + 1 → Small st
+  one-new st k l e h m f =
+      let g : (k, l) ≡ m = cc in
+      let z : l ≡ m .1 = ap (λ (x : ℕ × ℕ). x .1) g in
+      omega arith
+
+  -- a form that is no `new`
+  gives-none : {B : Type 0} (f : B → Statement A G) (q : Parsed B) → ((b : B) → newOf (f b) ≡ none) → Gives Small (mapped f q)
+  gives-none {B} f q e = gives-mapped (λ _. Unit) Small f q (λ b _. no-new (f b) (e b)) (gives-any q)
+
+  gives-rest : (f : Form) (at : ℕ) → Gives Small (rest R Q lim classes s f at)
+  unfolding rest newOf
+  gives-rest Form.Skip at = no-new skip refl
+  gives-rest Form.Set at = gives-next _ _ _ (λ p x. gives-none (set x) _ (λ a. refl))
+  gives-rest Form.New at = gives-next _ _ _ (λ p x. gives-next _ _ _ (λ q k.
+      gives-mapped (λ (es : List A). length es ≤ length s + 1) _ (new x k) _ (λ es h. one-new (new x k es) k (length es) refl h) (gives-arguments (length s) q)))
+  gives-rest Form.Call at = gives-next _ _ _ (λ p x. gives-next _ _ _ (λ q a. gives-next _ _ _ (λ r j. gives-none (call x a j) _ (λ es. refl))))
+  gives-rest Form.Get at = gives-next _ _ _ (λ p x. gives-none (get x) _ (λ y. refl))
+  gives-rest Form.Await at = gives-none await _ (λ g. refl)
+  gives-rest Form.If at = gives-none if _ (λ a. refl)
+  gives-rest Form.Else at = no-new else refl
+  gives-rest Form.Fi at = no-new fi refl
+  gives-rest Form.While at = gives-none while _ (λ a. refl)
+  gives-rest Form.Od at = no-new od refl
+  gives-rest Form.Return at = gives-none return _ (λ a. refl)
+
+  gives-statement : Gives Small (statement R Q lim classes s)
+  unfolding statement
+  gives-statement = go (formOf s)
+    where
+      go : (o : Option Form)
+          → Gives Small (elim o [ none ↦ bad 0 | some f ↦ ended s (next (word (wordOf f) s 0) (λ at _. rest R Q lim classes s f at)) ])
+      go none = tt
+      go (some f) = gives-ended _ s _ (gives-next _ (word (wordOf f) s 0) _ (λ at _. gives-rest f at))
+
+-- a `new` has at most one argument more than its text has bytes
+pub new-count : {A G : Type 0} (R : Reading A) (Q : GuardReading A G) (lim : Limits) (classes : ℕ) (s : Text) (p : ℕ) (st : Statement A G) (n : ℕ × ℕ)
+    → statement R Q lim classes s ≡ got p st → newOf st ≡ some n → n .1 ≤ length s + 1
+new-count R Q lim classes s p st n e = gives-of _ _ p st e (gives-statement R Q lim classes s) n
