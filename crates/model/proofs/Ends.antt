@@ -1,8 +1,15 @@
--- The ends of ranges that hang on more than a count, by the tests that the code makes. Assumes nothing.
+-- The ends of ranges that hang on more than a count, and where a line may stand, by the tests that the code makes. Assumes nothing.
 use Prim.Native.Nat.{ℕ}
-use mathlib.Core.Path.{_≡_}
+use mathlib.Core.Bool.{true, false}
+use mathlib.Core.List.{List}
+use mathlib.Core.Path.{_≡_, refl}
 use borrow.Author.Tests.{eq-eqb, ne-eqb}
-use Rattle.model.specs.Counts.{inFirstClass, inRunMethod, mostParams, lowestRun, highestGiven, highestParams}
+use lib.Dec.{leb, eqb}
+use lib.ListN.{length}
+use Rattle.code.specs.declared.Shape.{Shape}
+use Rattle.code.specs.declared.Shape.the-variants as Shape
+use Rattle.code.specs.Blocks.{Block, isShape, shapeNumber}
+use Rattle.model.specs.Counts.{isLast, deepest, endsMethod, mayStand, inFirstClass, inRunMethod, mostParams, lowestRun, highestGiven, highestParams}
 use Rattle.model.specs.declared.Counts.{Counts}
 
 module _ (c : Counts) where
@@ -35,3 +42,23 @@ module _ (c : Counts) where
   pub params-run : c .class .run ≡ 1 → c .class .read ≡ 0 → highestParams c ≡ 0
   unfolding highestParams inRunMethod
   params-run e z = rw (eq-eqb _ _ e, eq-eqb _ _ z, highestParams)
+
+-- a last line that is a `return`, and one that is not
+module _ (shape : Shape) (bs : List Block) where
+  pub ends-return : shapeNumber Shape.Return ≡ shapeNumber shape → endsMethod shape bs ≡ eqb (length bs) 0
+  unfolding endsMethod isShape
+  ends-return e = rw (eq-eqb _ _ e, endsMethod) refl
+
+  pub ends-other : (shapeNumber Shape.Return ≡ shapeNumber shape → ⊥) → endsMethod shape bs ≡ false
+  unfolding endsMethod isShape
+  ends-other n = rw (ne-eqb _ _ n, endsMethod) refl
+
+  -- the last line, and an earlier one
+  module _ (c : Counts) where
+    pub stands-last : isLast c ≡ true → mayStand c shape bs ≡ endsMethod shape bs
+    unfolding mayStand
+    stands-last e = rw (e, mayStand) refl
+
+    pub stands-before : isLast c ≡ false → mayStand c shape bs ≡ leb (length bs) deepest
+    unfolding mayStand
+    stands-before e = rw (e, mayStand) refl

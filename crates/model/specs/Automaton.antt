@@ -16,15 +16,18 @@ use Rattle.code.specs.Statements.{Code}
 use Rattle.code.specs.Blocks.{Block, shapeOf, through}
 use Rattle.code.specs.OpenBlocks.{packed}
 use Rattle.code.specs.Reader.{statement}
+use Rattle.model.specs.declared.Asked.{Asked}
+use Rattle.model.specs.declared.Asked.the-variants as Asked
 use Rattle.model.specs.declared.ClassCounts.{ClassCounts}
 use Rattle.model.specs.declared.Counts.{Counts}
+use Rattle.model.specs.declared.Fed as Declared
 use Rattle.model.specs.declared.Key.{Key}
 use Rattle.model.specs.declared.Key.the-variants as Key
 use Rattle.model.specs.declared.MethodCounts.{MethodCounts}
 use Rattle.model.specs.declared.ModelCounts.{ModelCounts}
 use Rattle.model.specs.Counts.{lowest, highest, isLast, mayStand}
 use Rattle.model.specs.Lines.{Line, sound, content}
-use Rattle.model.specs.Keys.{nameOf, Asked, aNumber, aCode, nothing, asked}
+use Rattle.model.specs.Keys.{nameOf, asked}
 use Rattle.model.specs.Model.{Method, Class}
 use Rattle.model.specs.Numbers.{numberIn}
 
@@ -242,9 +245,9 @@ codeLine at st value = elim (statement trees guardTrees (limitsOf st) (st .model
 
 -- a value by what its key asks for. "lines left over" are 3
 unfoldable pub valueLine : ℕ → State → Asked → Text → Fed
-valueLine at st aNumber value = numberLine st value
-valueLine at st aCode value = codeLine at st value
-valueLine at st nothing value = refused wrongKey
+valueLine at st Asked.Number value = numberLine st value
+valueLine at st Asked.Code value = codeLine at st value
+valueLine at st Asked.Nothing value = refused wrongKey
 
 -- one line, counted from 1: "the lowest number that applies there"
 unfoldable pub feed : ℕ → State → Line → Fed
@@ -255,3 +258,8 @@ feed at st l = elim (sound l) [
     | got p u ↦ valueLine at st (asked (st .key)) (drop p (content l))
   ]
 ]
+
+-- the same, as the code gives it
+unfoldable pub asFed : Fed → Declared.Fed
+asFed (refused n) = Declared.the-variants.Refused n
+asFed (fed st) = Declared.the-variants.Next (counted st)

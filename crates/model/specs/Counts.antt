@@ -110,9 +110,10 @@ highest Key.End c = 0
 unfoldable pub isLast : Counts → Bool
 isLast c = eqb (c .method .read + 1) (c .method .lines)
 
--- "A method's last line is a `return` outside all blocks." Any other line leaves at most eight blocks open
+-- "A method's last line is a `return` outside all blocks."
+unfoldable pub endsMethod : Shape → List Block → Bool
+endsMethod shape open-blocks = elim (isShape Shape.Return shape) [ true ↦ eqb (length open-blocks) 0 | false ↦ false ]
+
+-- any other line leaves at most eight blocks open
 unfoldable pub mayStand : Counts → Shape → List Block → Bool
-mayStand c shape open-blocks = elim (isLast c) [
-  | true ↦ isShape Shape.Return shape && eqb (length open-blocks) 0
-  | false ↦ leb (length open-blocks) deepest
-]
+mayStand c shape open-blocks = elim (isLast c) [ true ↦ endsMethod shape open-blocks | false ↦ leb (length open-blocks) deepest ]

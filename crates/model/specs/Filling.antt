@@ -7,10 +7,14 @@ use mathlib.Core.Path.{_≡_}
 use lib.Dec.{ltb}
 use lib.ListN.{length}
 use Rattle.terms.specs.Bytes.{Text}
+use Rattle.terms.specs.declared.Limits.{Limits}
 use Rattle.model.specs.declared.Counts.{Counts}
+use Rattle.model.specs.declared.Fed.{Fed}
+use Rattle.model.specs.declared.Fed.the-variants as Fed
 use Rattle.model.specs.declared.Key.{Key}
 use Rattle.model.specs.declared.Key.the-variants as Key
-use Rattle.model.specs.Automaton.{Creation, State, limitsOf}
+use Rattle.model.specs.Automaton.{Creation, State, limitsOf, counted, refused, fed, asFed}
+use Rattle.model.specs.Automaton as Automaton
 use Rattle.model.specs.Belonging.{CodeTold, MethodTold, ClassTold}
 use Rattle.model.specs.Counts.{mostClasses, mostMethods, mostLines, allLines, deepest, isLast}
 use Rattle.model.specs.Table.{Table, rowOf, put, classRow, methodRow, codeRow, creationRow, size, Rows}
@@ -21,6 +25,16 @@ firstLine c = c .model .total - c .method .lines
 
 unfoldable pub thisLine : Counts → ℕ
 thisLine c = firstLine c + c .method .read
+
+-- what the variables of a code line are below
+unfoldable pub limitsCounted : Counts → Limits
+limitsCounted c = record { attrs = c .class .attrs; locals = c .method .locals }
+
+-- counts that a code line may be read in: each of its rows has a place in the table, and no block more than eight is open
+abbrev pub Ready : Counts → Type 0
+Ready c =
+    (c .model .read < mostClasses) × (c .class .read < mostMethods) × (c .method .read < mostLines) × (c .method .lines ≤ c .model .total)
+    × (thisLine c < allLines) × (c .model .creations < allLines) × (c .method .blocks < 65536)
 
 -- the row of the code line being read: the place and the length of its value
 unfoldable pub codePut : Counts → ℕ → ℕ → Table → Table
@@ -45,9 +59,19 @@ classPut before after t = elim (ltb (before .model .read) (after .model .read)) 
   | false ↦ t
 ]
 
+-- how many `new`s a line has
+unfoldable pub howMany : Option (ℕ × ℕ) → ℕ
+howMany none = 0
+howMany (some n) = 1
+
 -- all rows of a code line
 unfoldable pub linePut : Counts → Counts → ℕ → ℕ → ℕ → Option (ℕ × ℕ) → Table → Table
 linePut before after at place long new t = classPut before after (methodPut before (creationPut before at new (codePut before place long t)))
+
+-- a line that is refused fills nothing
+unfoldable pub filledBy : Fed → (Counts → Table → Table) → Table → Table
+filledBy (Fed.Refused n) fill t = t
+filledBy (Fed.Next after) fill t = fill after t
 
 -- a creation, by its row
 unfoldable pub CreationTold : Table → ℕ → Creation → Type 0
@@ -112,3 +136,15 @@ pub record Held (s : Text) (t : Table) (st : State) (c : Counts) : Type 0 where
   pub told : Rows (ClassTold s (c .model .classes) t (whole (partOf (c .key)) c)) 0 (st .model .done)
   pub creations : Rows (CreationTold t) 0 (st .model .creations)
   pub part : PartHeld (partOf (c .key)) s t st c
+
+-- counts and a table that tell a state
+abbrev pub Tells : Text → Counts → Table → State → Type 0
+Tells s c t st = (c ≡ counted st) × Held s t st (counted st)
+
+-- what they tell after a line: the same refusal, or the next state
+unfoldable pub HeldAfter : Text → Table → Automaton.Fed → Type 0
+HeldAfter s t (refused n) = Unit {0}
+HeldAfter s t (fed st) = Held s t st (counted st)
+
+abbrev pub TellsAfter : Text → Fed → Table → Automaton.Fed → Type 0
+TellsAfter s r t f = (r ≡ asFed f) × HeldAfter s t f

@@ -7,9 +7,11 @@ use lib.Dec.{ltb, eqb}
 use lib.ListN.{length, getElem?}
 use Rattle.whole.specs.Refusals.{accepted, textTooLong, wrongKey, wrongCode}
 use Rattle.terms.specs.Bytes.{Text}
+use Rattle.model.specs.declared.Asked.{Asked}
+use Rattle.model.specs.declared.Asked.the-variants as Asked
 use Rattle.model.specs.declared.Verdict.{Verdict}
 use Rattle.model.specs.Lines.{Line, lines, longestText}
-use Rattle.model.specs.Keys.{Asked, aNumber, aCode, nothing, asked}
+use Rattle.model.specs.Keys.{asked}
 use Rattle.model.specs.Model.{Model}
 use Rattle.model.specs.Automaton.{Creation, State, begin, refused, fed, feed}
 
@@ -32,9 +34,9 @@ countsJudged m (c ∷ cs) = elim (eqb (c .count) (givenTo m (c .class))) [
 
 -- "a text ended early names the line after its last"
 unfoldable pub endJudged : ℕ → State → Asked → Judged
-endJudged at st aNumber = refusal wrongKey at
-endJudged at st aCode = refusal wrongKey at
-endJudged at st nothing = countsJudged (st .model .done) (st .model .creations)
+endJudged at st Asked.Number = refusal wrongKey at
+endJudged at st Asked.Code = refusal wrongKey at
+endJudged at st Asked.Nothing = countsJudged (st .model .done) (st .model .creations)
 
 -- the lines from one on, in a state
 unfoldable pub linesJudged : ℕ → State → List Line → Judged

@@ -1,5 +1,7 @@
 -- "Every line is key=value, in this order". Assumes nothing.
 use Rattle.terms.specs.Bytes.{Text, bytes}
+use Rattle.model.specs.declared.Asked.{Asked}
+use Rattle.model.specs.declared.Asked.the-variants as Asked
 use Rattle.model.specs.declared.Key.{Key}
 use Rattle.model.specs.declared.Key.the-variants as Key
 
@@ -20,20 +22,17 @@ nameOf Key.Code = bytes "code="
 nameOf Key.End = bytes ""
 
 -- what stands behind a key: a number, a code value, or nothing where the text has ended
-pub data Asked : Type 0 where
-  aNumber aCode nothing : Asked
-
 unfoldable pub asked : Key → Asked
-asked Key.Creol = aNumber
-asked Key.Classes = aNumber
-asked Key.Class = aNumber
-asked Key.Attrs = aNumber
-asked Key.Given = aNumber
-asked Key.Run = aNumber
-asked Key.Methods = aNumber
-asked Key.Method = aNumber
-asked Key.Params = aNumber
-asked Key.Locals = aNumber
-asked Key.Lines = aNumber
-asked Key.Code = aCode
-asked Key.End = nothing
+asked Key.Creol = Asked.Number
+asked Key.Classes = Asked.Number
+asked Key.Class = Asked.Number
+asked Key.Attrs = Asked.Number
+asked Key.Given = Asked.Number
+asked Key.Run = Asked.Number
+asked Key.Methods = Asked.Number
+asked Key.Method = Asked.Number
+asked Key.Params = Asked.Number
+asked Key.Locals = Asked.Number
+asked Key.Lines = Asked.Number
+asked Key.Code = Asked.Code
+asked Key.End = Asked.Nothing

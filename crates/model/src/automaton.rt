@@ -4,6 +4,8 @@ use crate::Counts;
 use crate::Key;
 use crate::MethodCounts;
 use crate::ModelCounts;
+use code::Shape;
+use code::blocks;
 ghost use mathlib.Core.Path.{_≡_};
 ghost use mathlib.Core.List.{List};
 ghost use Prim.Native.Nat.{ℕ, _+_, _<_, _^_};
@@ -14,6 +16,9 @@ ghost use Rattle.code.specs.Statements.{Code};
 ghost use Rattle.model.specs.declared.Key.the-variants as Key;
 ghost use Rattle.model.specs.Automaton as Automaton;
 ghost use Rattle.model.specs.Counts as Counting;
+
+// "Blocks nest at most 8 deep.": the least number of nine open blocks, which has nine digits to the base 4.
+const TOO_DEEP: u32 = 65536;
 
 // Counts with one of their parts put anew, and the key that comes next.
 fn with_model(counts: Counts, key: Key, model: ModelCounts) -> Counts
@@ -119,7 +124,7 @@ fn lines_begun(counts: Counts, n: u32) -> Counts
 // What a number makes of the counts.
 pub fn numbered(counts: Counts, n: u32) -> Counts
     requires { ⌜ counts .model .read < 16 ⌝ }
-    requires { ⌜ counts .model .total + n < 2 ^ 32 ⌝ }
+    requires { ⌜ (counts .key ≡ Key.Lines → counts .model .total + n < 2 ^ 32) ⌝ }
     ensures { λ r. ⌜ Automaton.Follows (λ st. Automaton.numbered (st .key) st n) counts r ⌝ }
 {
     let key = counts.key;
@@ -187,4 +192,25 @@ pub fn stated(counts: Counts, creations: u32, blocks: u32) -> Counts
         return method_closed(after);
     }
     after
+}
+
+// "A method's last line is a `return` outside all blocks."
+fn ends_method(shape: Shape, blocks: u32) -> bool
+    ensures { λ r. ⌜ ((bs : List Block) → blocks ≡ packed bs → r ≡ Counting.endsMethod shape bs) ⌝ }
+{
+    if blocks::shape_number(Shape::Return) == blocks::shape_number(shape) {
+        return blocks == 0;
+    }
+    false
+}
+
+// Whether a line may stand where it stands, by the blocks that are open after it.
+pub fn may_stand(counts: Counts, shape: Shape, blocks: u32) -> bool
+    requires { ⌜ counts .method .read < 64 ⌝ }
+    ensures { λ r. ⌜ ((bs : List Block) → blocks ≡ packed bs → r ≡ Counting.mayStand counts shape bs) ⌝ }
+{
+    if is_last(counts) {
+        return ends_method(shape, blocks);
+    }
+    blocks < TOO_DEEP
 }

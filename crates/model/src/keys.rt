@@ -1,4 +1,5 @@
 // "Every line is key=value, in this order"
+use crate::Asked;
 use crate::Key;
 use terms::ReadWord;
 use terms::leaves;
@@ -25,5 +26,26 @@ pub fn key_end(key: Key, line: &[u8]) -> ReadWord
         Key::Lines => leaves::word(b"lines=", line, 0),
         Key::Code => leaves::word(b"code=", line, 0),
         Key::End => ReadWord::Got(0),
+    }
+}
+
+// What stands behind a key.
+pub fn asked(key: Key) -> Asked
+    ensures { λ r. ⌜ r ≡ Keys.asked key ⌝ }
+{
+    match key {
+        Key::Creol => Asked::Number,
+        Key::Classes => Asked::Number,
+        Key::Class => Asked::Number,
+        Key::Attrs => Asked::Number,
+        Key::Given => Asked::Number,
+        Key::Run => Asked::Number,
+        Key::Methods => Asked::Number,
+        Key::Method => Asked::Number,
+        Key::Params => Asked::Number,
+        Key::Locals => Asked::Number,
+        Key::Lines => Asked::Number,
+        Key::Code => Asked::Code,
+        Key::End => Asked::Nothing,
     }
 }

@@ -1,6 +1,11 @@
 // The verdict on a model text, and the table that later parts find its lines by.
 
 pub mod automaton;
+pub mod code_lines;
+pub mod creations;
+pub mod feeding;
+pub mod filling;
+pub mod judging;
 pub mod keys;
 pub mod lines;
 pub mod numbers;
@@ -28,6 +33,13 @@ pub enum Key {
     Lines,
     Code,
     End,
+}
+
+// What stands behind a key: a number, a code value, or nothing where the text has ended.
+pub enum Asked {
+    Number,
+    Code,
+    Nothing,
 }
 
 // What was counted of the model: its classes, all `lines=` together, the `new` lines, and the classes that are whole.
@@ -64,10 +76,23 @@ pub struct Counts {
     pub method: MethodCounts,
 }
 
+// What a line makes of a state: the number of its refusal, or the next state.
+pub enum Fed {
+    Refused(u32),
+    Next(Counts),
+}
+
 // A value as a number within its range, or none: "its form, its range".
 pub enum NumberLine {
     Is(u32),
     Bad,
+}
+
+// Where a code value stands: its place in the text, its length, and its line.
+pub struct CodeAt {
+    pub place: u32,
+    pub long: u32,
+    pub line: u32,
 }
 
 // A row of the table: four numbers.

@@ -4,6 +4,8 @@ ghost use lib.IntN.{pos};
 ghost use Rattle.whole.specs.Whole as Whole;
 ghost use Rattle.whole.specs.declared.Operator.the-variants.{Plus, Minus, Times, Less, Equal};
 
+pub mod refusals;
+
 // The five operators of an expression.
 pub enum Operator {
     Plus,

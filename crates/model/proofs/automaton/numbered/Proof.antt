@@ -70,7 +70,7 @@ enum-told-11 : tie.Need-enum-told-11
 enum-told-11 c = search needs
 
 lines-begun-requires : tie.Need-lines-begun-requires
-lines-begun-requires c κs = search needs
+lines-begun-requires c κs = c .before .before .before .before .before .pre .1 (c .enum-told11 .given .1)
 
 enum-told-12 : tie.Need-enum-told-12
 enum-told-12 c = search needs

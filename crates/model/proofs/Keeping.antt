@@ -1,0 +1,227 @@
+-- What the table tells of a state, it tells of the next one too, when the rows of the line are put. Assumes nothing.
+use Prim.Native.Nat.{ℕ, _+_, _-_, _≤_, _<_}
+use mathlib.Core.Bool.{Bool, true, false}
+use mathlib.Core.List.{List, [], _∷_, _++_}
+use mathlib.Core.Path.{_≡_, refl, sym, ap, subst}
+use native.Mathlib.Omega.{arith}
+use borrow.Author.Tests.{eqb-true, eqb-false}
+use lib.ListN.{length, take, drop, length-append}
+use Rattle.terms.specs.Bytes.{Text}
+use Rattle.terms.specs.Parsed.{got}
+use Rattle.terms.specs.Trees.{trees, guardTrees}
+use Rattle.code.specs.Blocks.{Block}
+use Rattle.code.specs.Creating.{newOf}
+use Rattle.code.specs.Reader.{statement}
+use Rattle.code.specs.Statements.{Code}
+use Rattle.model.specs.declared.Key.{Key}
+use Rattle.model.specs.declared.Key.the-variants as Key
+use Rattle.model.specs.Automaton.{InClass, InMethod, State, begin, freshModel, modelCounted, classCounted, methodCounted, counted, withModel, withClass, withMethod, methodsBegun, linesCounted, linesBegun, numbered, creationsOf, codeJoined, creationsJoined, lineJoined, methodJoined, methodClosed, stated, limitsOf}
+use Rattle.model.specs.Belonging.{ClassTold, MethodTold, Belongs}
+use Rattle.model.specs.Counts.{lowest, highest, highestLines, mostLines, allLines, isLast}
+use Rattle.model.specs.Filling.{classPut, methodPut, linePut, partOf, whole, reached, atStart, inClass, inMethod, inCode, atEnd, PartHeld, Held, firstLine, thisLine}
+use Rattle.model.specs.Table.{Table, size, Rows}
+use Rattle.model.proofs.Changes.{stated-last, stated-before}
+use Rattle.model.proofs.Closing.{Between, no-class-put, next-held}
+use Rattle.model.proofs.CodeRows.{AtLine, Lined, at-line, lined, lineTable, creations-few}
+use Rattle.model.proofs.Framing.{same-self, classes-kept}
+use Rattle.model.proofs.MethodRows.{no-method-put, method-between}
+use Rattle.model.proofs.Parts.{Known, known-in, held-in}
+use Rattle.model.proofs.TableRows.{append-length}
+
+-- a line that makes no class whole puts no row of a class
+quiet : (s : Text) (t : Table) (st after : State) → length (after .model .done) ≤ length (st .model .done) → Held s t after (counted after)
+    → Held s (classPut (counted st) (counted after) t) after (counted after)
+unfolding counted modelCounted
+quiet s t st after l h = rw (no-class-put (counted st) (counted after) t l) h
+
+-- nothing is told at first
+pub begin-held : (s : Text) (t : Table) → length t ≡ size → Held s t begin (counted begin)
+unfolding begin freshModel counted modelCounted partOf reached whole PartHeld Rows
+begin-held s t e = record {
+  all = e;
+  classes = omega arith;
+  lines = omega arith;
+  news = omega arith;
+  told = tt;
+  creations = tt;
+  part = refl;
+}
+
+-- at the end all classes are told, with all their code lines
+at-end : (s : Text) (t : Table) (st : State) → Known atEnd s t st → Belongs s t (st .model .done)
+unfolding counted modelCounted whole PartHeld Belongs
+at-end s t st k =
+    let n = st .model .classes in
+    let told = classes-kept s n t t (st .model .total) allLines n 128 512 512 (st .model .done) (same-self t n 128 512 512) (k .lines) (k .lines) (omega (arith, k .part)) (omega (arith, k .classes)) (k .told) in
+    rw (k .part) told
+
+pub held-belongs : (s : Text) (t : Table) (st : State) → Held s t st (counted st) → st .key ≡ Key.End → Belongs s t (st .model .done)
+unfolding partOf
+held-belongs s t st h e = at-end s t st (known-in s t st atEnd (ap partOf e) h)
+
+module _ (s : Text) (t : Table) (st : State) where
+  -- `creol=`, and `classes=`: no class is read yet
+  keep-creol : (n : ℕ) → Known atStart s t st → (let after = numbered Key.Creol st n in Held s t after (counted after))
+  unfolding numbered withModel counted modelCounted partOf reached whole PartHeld
+  keep-creol n k = held-in s t _ atStart refl (record { all = k .all; classes = k .classes; lines = k .lines; news = k .news; told = k .told; creations = k .creations; part = k .part })
+
+  keep-classes : (n : ℕ) → Known atStart s t st → 1 ≤ n → n ≤ 16 → (let after = numbered Key.Classes st n in Held s t after (counted after))
+  unfolding numbered withModel counted modelCounted partOf reached whole PartHeld Rows
+  keep-classes n k l m =
+      held-in s t _ inClass refl
+      (record { all = k .all; classes = m; lines = k .lines; news = k .news; told = rw (k .part) tt; creations = k .creations; part = rw (k .part) l })
+
+  -- a number of a class, and a number of a method
+  keep-class : (key : Key) (c : InClass) → partOf key ≡ inClass → Known inClass s t st
+      → (let after = withClass st key c in Held s t after (counted after))
+  unfolding withClass counted modelCounted reached whole PartHeld
+  keep-class key c e k = held-in s t _ inClass e (record { all = k .all; classes = k .classes; lines = k .lines; news = k .news; told = k .told; creations = k .creations; part = k .part })
+
+  keep-method : (key : Key) (o : InMethod) → partOf key ≡ inMethod → Known inMethod s t st
+      → (let after = withMethod st key o in Held s t after (counted after))
+  unfolding withMethod counted modelCounted classCounted reached whole PartHeld
+  keep-method key o e k = held-in s t _ inMethod e (record { all = k .all; classes = k .classes; lines = k .lines; news = k .news; told = k .told; creations = k .creations; part = k .part })
+
+  -- `methods=`: none is read yet
+  methods-between : (n : ℕ) → Known inClass s t st → n ≤ 8 → Between s t (withClass st Key.Method (methodsBegun st n))
+  unfolding withClass methodsBegun counted modelCounted reached whole PartHeld Rows
+  methods-between n k m = record {
+    all = k .all;
+    classes = k .classes;
+    lines = k .lines;
+    news = k .news;
+    told = k .told;
+    creations = k .creations;
+    here = k .part;
+    read = omega arith;
+    most = m;
+    methods = tt;
+  }
+
+  keep-methods : (n : ℕ) → Known inClass s t st → n ≤ 8
+      → (let after = numbered Key.Methods st n in Held s (classPut (counted st) (counted after) t) after (counted after))
+  unfolding numbered withClass counted modelCounted
+  keep-methods n k m = next-held s t (withClass st Key.Method (methodsBegun st n)) (methods-between n k m) (counted st) refl
+
+  -- `lines=`: none is read yet, and the lines before are as many as were counted
+  lines-room : (n : ℕ) → n ≤ highestLines (counted st) → st .model .total ≤ allLines → (n ≤ mostLines) × (st .model .total + n ≤ allLines)
+  unfolding highestLines counted modelCounted
+  lines-room n h b = (omega arith, omega arith)
+
+  keep-lines : (n : ℕ) → Known inMethod s t st → 1 ≤ n → n ≤ mostLines → st .model .total + n ≤ allLines
+      → (let after = numbered Key.Lines st n in Held s t after (counted after))
+  unfolding numbered withModel withMethod linesCounted linesBegun counted modelCounted classCounted methodCounted partOf reached whole PartHeld firstLine thisLine Rows
+  keep-lines n k l m a =
+      let e : st .model .total ≡ st .model .total + n - n = omega arith in
+      let told = subst (λ f. Rows (ClassTold s (st .model .classes) t f) 0 (st .model .done)) e (k .told) in
+      let methods = subst (λ f. Rows (MethodTold s (st .model .classes) t f (st .class .attrs) (length (st .model .done))) 0 (st .class .done)) e (k .part .3) in
+      held-in s t _ inCode refl
+      (record {
+        all = k .all;
+        classes = k .classes;
+        lines = a;
+        news = omega (arith, k .news);
+        told = told;
+        creations = k .creations;
+        part = (k .part .0, k .part .1, k .part .2, methods, l, m, omega arith, omega arith, tt);
+      })
+
+  -- a number, by the key that asks for it
+  keep-asked : (n : ℕ) (key : Key) → st .key ≡ key → Held s t st (counted st) → lowest key (counted st) ≤ n → n ≤ highest key (counted st)
+      → (let after = numbered key st n in Held s (classPut (counted st) (counted after) t) after (counted after))
+  unfolding lowest highest partOf numbered withModel withClass withMethod linesCounted
+  keep-asked n Key.Creol e h l m = quiet s t st _ (omega arith) (keep-creol n (known-in s t st atStart (ap partOf e) h))
+  keep-asked n Key.Classes e h l m = quiet s t st _ (omega arith) (keep-classes n (known-in s t st atStart (ap partOf e) h) l m)
+  keep-asked n Key.Class e h l m = quiet s t st _ (omega arith) (keep-class Key.Attrs _ refl (known-in s t st inClass (ap partOf e) h))
+  keep-asked n Key.Attrs e h l m = quiet s t st _ (omega arith) (keep-class Key.Given _ refl (known-in s t st inClass (ap partOf e) h))
+  keep-asked n Key.Given e h l m = quiet s t st _ (omega arith) (keep-class Key.Run _ refl (known-in s t st inClass (ap partOf e) h))
+  keep-asked n Key.Run e h l m = quiet s t st _ (omega arith) (keep-class Key.Methods _ refl (known-in s t st inClass (ap partOf e) h))
+  keep-asked n Key.Methods e h l m = keep-methods n (known-in s t st inClass (ap partOf e) h) m
+  keep-asked n Key.Method e h l m = quiet s t st _ (omega arith) (keep-method Key.Params _ refl (known-in s t st inMethod (ap partOf e) h))
+  keep-asked n Key.Params e h l m = quiet s t st _ (omega arith) (keep-method Key.Locals _ refl (known-in s t st inMethod (ap partOf e) h))
+  keep-asked n Key.Locals e h l m = quiet s t st _ (omega arith) (keep-method Key.Lines _ refl (known-in s t st inMethod (ap partOf e) h))
+  keep-asked n Key.Lines e h l m =
+      let k = known-in s t st inMethod (ap partOf e) h in
+      let room = lines-room n m (k .lines) in
+      quiet s t st _ (omega arith) (keep-lines n k l (room .0) (room .1))
+  keep-asked n Key.Code e h l m = quiet s t st _ (omega arith) h
+  keep-asked n Key.End e h l m = quiet s t st _ (omega arith) h
+
+-- a number within its range
+pub keep-number : (s : Text) (t : Table) (st : State) (n : ℕ) → Held s t st (counted st)
+    → lowest (st .key) (counted st) ≤ n → n ≤ highest (st .key) (counted st)
+    → (let after = numbered (st .key) st n in Held s (classPut (counted st) (counted after) t) after (counted after))
+keep-number s t st n h l m = keep-asked s t st n (st .key) refl h l m
+
+-- the test for a method's last line
+module _ (st : State) where
+  last-read : isLast (counted st) ≡ true → length (st .method .done) + 1 ≡ st .method .lines
+  unfolding isLast counted methodCounted
+  last-read e = eqb-true (length (st .method .done) + 1) (st .method .lines) e
+
+  more-to-read : isLast (counted st) ≡ false → length (st .method .done) < st .method .lines → length (st .method .done) + 1 < st .method .lines
+  unfolding isLast counted methodCounted
+  more-to-read e h =
+      let n : length (st .method .done) + 1 ≡ st .method .lines → ⊥ = eqb-false (length (st .method .done) + 1) (st .method .lines) e in
+      omega arith
+
+-- a code line that is not its method's last: the next one comes
+module _ (s : Text) (t : Table) (st : State) (at : ℕ) (c : Code) (bs : List Block) where
+  keep-line : Known inCode s t st → (u : Table) → AtLine st → Lined s u st at c → isLast (counted st) ≡ false → length bs ≤ 8
+      → (let after = lineJoined at st c bs in Held s u after (counted after))
+  unfolding lineJoined codeJoined creationsJoined withModel withMethod counted modelCounted classCounted methodCounted partOf reached whole PartHeld limitsOf firstLine thisLine
+  keep-line k u b d e h =
+      let more = append-length (st .method .done) c in
+      let new = length-append (st .model .creations) (creationsOf at c) in
+      let few = creations-few at c in
+      let next : length (st .method .done ++ (c ∷ [])) < st .method .lines = omega (arith, more-to-read st e (b .line)) in
+      held-in s u _ inCode refl
+      (record {
+        all = d .all;
+        classes = k .classes;
+        lines = k .lines;
+        news = omega (arith, more, new, few, b .news);
+        told = d .classes;
+        creations = d .creations;
+        part = (k .part .0, k .part .1, k .part .2, d .methods, next, k .part .5, k .part .6, h, d .lines _);
+      })
+
+  -- it makes no class whole by itself
+  classes-stay : counted st .model .read ≡ length (withClass (lineJoined at st c bs) Key.Method (methodJoined (lineJoined at st c bs)) .model .done)
+  unfolding counted modelCounted lineJoined creationsJoined withModel withClass withMethod
+  classes-stay = refl
+
+  classes-same : length (lineJoined at st c bs .model .done) ≤ length (st .model .done)
+  unfolding lineJoined creationsJoined withModel withMethod
+  classes-same = omega arith
+
+  -- the line that is: the method joins its class, and the next one comes or the class is whole
+  keep-last : (u : Table) → AtLine st → Lined s u st at c → isLast (counted st) ≡ true
+      → (let after = methodClosed (lineJoined at st c bs) in Held s (classPut (counted st) (counted after) (methodPut (counted st) u)) after (counted after))
+  unfolding methodClosed
+  keep-last u b d e =
+      let after = lineJoined at st c bs in
+      next-held s (methodPut (counted st) u) (withClass after Key.Method (methodJoined after)) (method-between s u st at c b d (last-read st e) bs e) (counted st) classes-stay
+
+  -- a code line, by the test
+  keep-joined : Known inCode s t st → (u : Table) → AtLine st → Lined s u st at c → length bs ≤ 8
+      → (let after = stated at st c bs in Held s (classPut (counted st) (counted after) (methodPut (counted st) u)) after (counted after))
+  keep-joined k u b d h = go (isLast (counted st)) refl
+    where
+      go : (l : Bool) → isLast (counted st) ≡ l
+          → (let after = stated at st c bs in Held s (classPut (counted st) (counted after) (methodPut (counted st) u)) after (counted after))
+      go true e = rw (sym (stated-last (counted st) st refl at c bs e)) (keep-last u b d e)
+      go false e =
+          rw (sym (stated-before (counted st) st refl at c bs e), no-method-put st u e)
+          (quiet s u st (lineJoined at st c bs) classes-same (keep-line k u b d e h))
+
+-- a code line whose value is a statement
+pub keep-code : (s : Text) (t : Table) (st : State) (at place long : ℕ) (c : Code) (bs : List Block) → Held s t st (counted st) → st .key ≡ Key.Code
+    → place + long ≤ length s → statement trees guardTrees (limitsOf st) (st .model .classes) (take long (drop place s)) ≡ got long c
+    → length bs ≤ 8
+    → (let after = stated at st c bs in Held s (linePut (counted st) (counted after) at place long (newOf c) t) after (counted after))
+unfolding partOf linePut lineTable
+keep-code s t st at place long c bs h e fits f m =
+    let k = known-in s t st inCode (ap partOf e) h in
+    let b = at-line s t st k in
+    keep-joined s t st at c bs k (lineTable st at place long c t) b (lined s t st at place long c k b fits f) m

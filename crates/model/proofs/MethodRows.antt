@@ -1,0 +1,112 @@
+-- The row of a method, put at its last line. Assumes nothing.
+use Prim.Native.Nat.{ℕ, _+_, _*_, _≤_}
+use mathlib.Core.Bool.{true, false}
+use mathlib.Core.List.{List, [], _∷_, _++_}
+use mathlib.Core.Path.{_≡_, refl, sym, _∙_}
+use native.Mathlib.Nat.{zero-add}
+use native.Mathlib.Omega.{arith}
+use lib.ListN.{length, length-append}
+use Rattle.terms.specs.Bytes.{Text}
+use Rattle.code.specs.Blocks.{Block}
+use Rattle.code.specs.Statements.{Code}
+use Rattle.model.specs.declared.Counts.{Counts}
+use Rattle.model.specs.declared.Key.the-variants as Key
+use Rattle.model.specs.declared.Row.{Row}
+use Rattle.model.specs.Automaton.{State, modelCounted, classCounted, methodCounted, counted, withModel, withClass, withMethod, methodJoined, codeJoined, creationsJoined, lineJoined, creationsOf, limitsOf}
+use Rattle.model.specs.Belonging.{MethodTold, ClassTold}
+use Rattle.model.specs.Counts.{isLast}
+use Rattle.model.specs.Filling.{firstLine, methodPut, CreationTold}
+use Rattle.model.specs.Model.{Method}
+use Rattle.model.specs.Table.{Table, put, methodRow, size, Rows}
+use Rattle.model.proofs.Closing.{Between}
+use Rattle.model.proofs.CodeRows.{AtLine, Lined, creations-few}
+use Rattle.model.proofs.Framing.{Same, same-method, lines-kept, methods-kept, classes-kept, news-kept}
+use Rattle.model.proofs.TableRows.{put-length, row-own, append-length, rows-append}
+
+-- the method being read with its last line, its row, and the table with it
+unfoldable wholeMethod : State → Code → Method
+wholeMethod st c = let m = st .method in record { params = m .params; locals = m .locals; code = m .done ++ (c ∷ []) }
+
+unfoldable wholeRow : State → Row
+wholeRow st = let m = st .method in record { 0 = m .params; 1 = m .locals; 2 = m .lines; 3 = firstLine (counted st) }
+
+methodTable : State → Table → Table
+methodTable st t = put t (methodRow (length (st .model .done)) (length (st .class .done))) (wholeRow st)
+
+-- the row of the method is put at its last line, and no row elsewhere
+module _ (st : State) (t : Table) where
+  pub no-method-put : isLast (counted st) ≡ false → methodPut (counted st) t ≡ t
+  unfolding methodPut
+  no-method-put e = rw (e, methodPut) refl
+
+  method-put : isLast (counted st) ≡ true → methodPut (counted st) t ≡ methodTable st t
+  unfolding methodPut methodTable wholeRow counted modelCounted classCounted methodCounted
+  method-put e = rw (e, methodPut) refl
+
+module _ (s : Text) (t : Table) (st : State) (at : ℕ) (c : Code) (b : AtLine st) (d : Lined s t st at c) (last : length (st .method .done) + 1 ≡ st .method .lines) where
+  -- the other rows are as they were
+  rows-stay : Same t (methodTable st t) 16 (8 * length (st .model .done) + length (st .class .done)) 512 512
+  unfolding methodTable
+  rows-stay = same-method t (wholeRow st) 16 _ 512 512 (length (st .model .done)) (length (st .class .done)) (omega arith) (omega arith) (omega arith)
+
+  lines-all : length (wholeMethod st c .code) ≡ st .method .lines
+  unfolding wholeMethod
+  lines-all = append-length (st .method .done) c ∙ last
+
+  -- the row tells the method
+  method-told : MethodTold s (st .model .classes) (methodTable st t) (st .model .total) (st .class .attrs) (length (st .model .done)) (length (st .class .done)) (wholeMethod st c)
+  unfolding MethodTold methodTable wholeMethod wholeRow limitsOf
+  method-told =
+      let k = length (st .model .done) in
+      let j = length (st .class .done) in
+      rw (row-own t (methodRow k j) (wholeRow st) (d .all) (omega arith)) (
+        refl,
+        refl,
+        sym lines-all,
+        omega (arith, lines-all),
+        lines-kept s (st .model .classes) t (methodTable st t) (st .model .total) (st .model .total) _ _ _ _ (limitsOf st) (firstLine (counted st)) (st .method .done ++ (c ∷ [])) rows-stay
+            (omega (arith, lines-all)) (d .lines (st .model .total)),
+      )
+
+  -- what is known when the method has joined its class
+  classes-told : Rows (ClassTold s (st .model .classes) (methodTable st t) (st .model .total)) 0 (st .model .done)
+  classes-told =
+      classes-kept s (st .model .classes) t (methodTable st t) (firstLine (counted st)) (st .model .total) (length (st .model .done)) (8 * length (st .model .done) + length (st .class .done)) 512 512 (st .model .done)
+      (record { class = λ i h. rows-stay .class i (omega arith); method = rows-stay .method; line = rows-stay .line; new = rows-stay .new })
+      (omega arith) (omega arith) (omega arith) (omega arith) (d .classes)
+
+  methods-told : Rows (MethodTold s (st .model .classes) (methodTable st t) (st .model .total) (st .class .attrs) (length (st .model .done))) 0 (st .class .done ++ (wholeMethod st c ∷ []))
+  methods-told =
+      rows-append _ 0 (st .class .done) (wholeMethod st c)
+      (methods-kept s (st .model .classes) t (methodTable st t) (firstLine (counted st)) (st .model .total) _ _ _ _ (st .class .attrs) (length (st .model .done)) (st .class .done) rows-stay
+      (omega arith) (omega arith) (omega arith) (d .methods))
+      (rw zero-add method-told)
+
+  news-told : length (st .model .creations ++ creationsOf at c) ≤ st .model .total → Rows (CreationTold (methodTable st t)) 0 (st .model .creations ++ creationsOf at c)
+  news-told h = news-kept t (methodTable st t) _ _ _ _ (st .model .creations ++ creationsOf at c) rows-stay (omega arith) (d .creations)
+
+  news-few : length (st .model .creations ++ creationsOf at c) ≤ st .model .total
+  news-few = omega (arith, length-append (st .model .creations) (creationsOf at c), creations-few at c)
+
+  table-length : length (methodTable st t) ≡ size
+  unfolding methodTable
+  table-length = put-length t _ (wholeRow st) ∙ d .all
+
+  joined-between : (bs : List Block) → (let after = lineJoined at st c bs in Between s (methodTable st t) (withClass after Key.Method (methodJoined after)))
+  unfolding lineJoined methodJoined codeJoined creationsJoined withModel withClass withMethod wholeMethod
+  joined-between bs = record {
+    all = table-length;
+    classes = b .classes;
+    lines = b .total;
+    news = news-few;
+    told = classes-told;
+    creations = news-told news-few;
+    here = b .class;
+    read = omega (arith, append-length (st .class .done) (wholeMethod st c));
+    most = b .methods;
+    methods = methods-told;
+  }
+
+  pub method-between : (bs : List Block) → isLast (counted st) ≡ true
+      → (let after = lineJoined at st c bs in Between s (methodPut (counted st) t) (withClass after Key.Method (methodJoined after)))
+  method-between bs e = rw (method-put st t e) (joined-between bs)

@@ -1,0 +1,20 @@
+-- `model::creations::given_to` meets its contract. Assumes nothing.
+use borrow.Author.Needs.{needs}
+use mathlib.Core.Path.{sym, ap, _∙_}
+use native.Mathlib.Omega.{arith}
+use Rattle.model.proofs.CountsOfNew.{given-none, given-told}
+use Rattle.model.specs.declared.Row.{Row}
+use Rattle.model.proofs.creations.given_to.Statement.{statement}
+use Rattle.model.proofs.creations.given_to.Tie as tie
+
+row-requires : tie.Need-row-requires
+row-requires c κs = search needs
+
+returns : tie.Need-returns
+returns c s n filled m told l = ap (λ (x : Row). x .1) (c .row .ensures) ∙ sym (given-told s n _ filled m _ told (omega arith))
+
+returns-2 : tie.Need-returns-2
+returns-2 c s n filled m told l = sym (given-none m _ (omega arith))
+
+pub given-to-spec : {M : Type 1} → statement M
+given-to-spec = tie.close (tie.spec row-requires returns returns-2)

@@ -1,0 +1,13 @@
+-- `model::judging::begin` meets its contract. Assumes nothing.
+use Rattle.code.specs.OpenBlocks.{packed}
+use Rattle.model.specs.Automaton.{modelCounted, classCounted, methodCounted, counted, freshModel, freshClass, freshMethod, begin}
+use mathlib.Core.Path.{refl}
+use Rattle.model.proofs.judging.begin.Statement.{statement}
+use Rattle.model.proofs.judging.begin.Tie as tie
+
+returns : tie.Need-returns
+unfolding counted begin modelCounted classCounted methodCounted freshModel freshClass freshMethod packed
+returns c = refl
+
+pub begin-spec : {M : Type 1} → statement M
+begin-spec = tie.close (tie.spec returns)
