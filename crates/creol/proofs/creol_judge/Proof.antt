@@ -1,0 +1,18 @@
+-- `creol::creol_judge` meets its contract. Assumes nothing.
+use Rattle.creol.specs.Packed.{packed}
+use borrow.Author.Needs.{needs}
+use mathlib.Core.Path.{_≡_, ap, _∙_}
+use Rattle.creol.proofs.creol_judge.Statement.{statement}
+use Rattle.creol.proofs.creol_judge.Tie as tie
+
+judge-requires : tie.Need-judge-requires
+judge-requires c κs = search needs
+
+packed-requires : tie.Need-packed-requires
+packed-requires c κs = search needs
+
+returns : tie.Need-returns
+returns c = c .packed .ensures ∙ ap packed (c .before .judge .ensures)
+
+pub creol-judge-spec : {M : Type 1} → statement M
+creol-judge-spec = tie.close (tie.spec judge-requires packed-requires returns)

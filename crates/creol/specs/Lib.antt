@@ -1,0 +1,2 @@
+-- What the entries for C and Rust give.
+pub mod Packed
