@@ -15,6 +15,7 @@ pub mod LinesHeld
 pub mod MethodRows
 pub mod NumberFed
 pub mod NumberLines
+pub mod OneVerdict
 pub mod Open
 pub mod Parts
 pub mod Plain
@@ -22,4 +23,5 @@ pub mod Puts
 pub mod ReadBounds
 pub mod Session
 pub mod TableRows
+pub mod VerdictBounds
 pub mod Verdicts

@@ -1,0 +1,3 @@
+-- What is proved of the entries beyond their contracts.
+pub mod Only
+pub mod Unpacked
