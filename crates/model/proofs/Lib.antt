@@ -12,6 +12,7 @@ pub mod Framing
 pub mod Keeping
 pub mod LineTells
 pub mod LinesHeld
+pub mod Lookup
 pub mod MethodRows
 pub mod NumberFed
 pub mod NumberLines

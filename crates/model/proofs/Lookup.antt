@@ -1,0 +1,85 @@
+-- What parts above look up in the table of a text, without opening it: the counts of a class and of a method, and the bytes of a code line.
+-- Assumes nothing.
+use Prim.Native.Nat.{ℕ, _+_, _≤_, _<_}
+use mathlib.Core.Option.{some}
+use mathlib.Core.Path.{_≡_, subst}
+use native.Mathlib.Nat.{zero-add}
+use native.Mathlib.Omega.{arith}
+use lib.ListN.{length, getElem?}
+use Rattle.terms.specs.Bytes.{Text}
+use Rattle.terms.specs.Parsed.{got}
+use Rattle.terms.specs.Trees.{trees, guardTrees}
+use Rattle.code.specs.Reader.{statement}
+use Rattle.code.specs.Statements.{Code}
+use Rattle.model.specs.Belonging.{valueIn, CodeTold, MethodTold, ClassTold, Belongs}
+use Rattle.model.specs.Counts.{allLines, mostMethods}
+use Rattle.model.specs.Model.{Method, Class, Model}
+use Rattle.model.specs.Table.{Table, rowOf, classRow, methodRow, codeRow}
+use Rattle.model.proofs.TableRows.{rows-at}
+
+-- a text, the table that belongs to it, the model that it gives, and a class of it
+module _ (s : Text) (t : Table) (m : Model) (b : Belongs s t m) (k : ℕ) (c : Class) (e : getElem? m k ≡ some c) where
+  class-told : ClassTold s (length m) t allLines k c
+  unfolding Belongs
+  class-told = subst (λ n. ClassTold s (length m) t allLines n c) (zero-add k) (rows-at _ 0 m k c b e)
+
+  pub attrs-at : rowOf t (classRow k) .0 ≡ c .attrs
+  unfolding ClassTold
+  attrs-at = class-told .0
+
+  pub given-at : rowOf t (classRow k) .1 ≡ c .given
+  unfolding ClassTold
+  given-at = class-told .1
+
+  pub run-at : rowOf t (classRow k) .2 ≡ c .run
+  unfolding ClassTold
+  run-at = class-told .2
+
+  pub methods-at : rowOf t (classRow k) .3 ≡ length (c .methods)
+  unfolding ClassTold
+  methods-at = class-told .3
+
+  -- every method has a row of its class
+  pub methods-few : length (c .methods) ≤ mostMethods
+  unfolding ClassTold
+  methods-few = class-told .4
+
+  -- a method of the class
+  module _ (j : ℕ) (o : Method) (f : getElem? (c .methods) j ≡ some o) where
+    method-told : MethodTold s (length m) t allLines (c .attrs) k j o
+    unfolding ClassTold
+    method-told = subst (λ n. MethodTold s (length m) t allLines (c .attrs) k n o) (zero-add j) (rows-at _ 0 (c .methods) j o (class-told .5) f)
+
+    pub params-at : rowOf t (methodRow k j) .0 ≡ o .params
+    unfolding MethodTold
+    params-at = method-told .0
+
+    pub locals-at : rowOf t (methodRow k j) .1 ≡ o .locals
+    unfolding MethodTold
+    locals-at = method-told .1
+
+    pub lines-at : rowOf t (methodRow k j) .2 ≡ length (o .code)
+    unfolding MethodTold
+    lines-at = method-told .2
+
+    -- every code line of it has a row
+    pub lines-few : rowOf t (methodRow k j) .3 + length (o .code) ≤ allLines
+    unfolding MethodTold
+    lines-few = method-told .3
+
+    -- a code line of the method
+    module _ (i : ℕ) (st : Code) (g : getElem? (o .code) i ≡ some st) where
+      line-told : CodeTold s (length m) t allLines (record { attrs = c .attrs; locals = o .locals }) (rowOf t (methodRow k j) .3 + i) st
+      unfolding MethodTold
+      line-told = rows-at _ (rowOf t (methodRow k j) .3) (o .code) i st (method-told .4) g
+
+      -- its bytes lie within the text
+      pub bytes-within : (let r = rowOf t (codeRow (rowOf t (methodRow k j) .3 + i)) in r .0 + r .1 ≤ length s)
+      unfolding CodeTold
+      bytes-within = line-told .0
+
+      -- and, read, they are the statement of the model
+      pub bytes-at : (let r = rowOf t (codeRow (rowOf t (methodRow k j) .3 + i)) in
+          statement trees guardTrees (record { attrs = c .attrs; locals = o .locals }) (length m) (valueIn s r) ≡ got (r .1) st)
+      unfolding CodeTold
+      bytes-at = line-told .1
