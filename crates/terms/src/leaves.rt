@@ -61,14 +61,18 @@ fn digits(most: u32, s: &[u8], at: usize, n: u32) -> ReadNumber
     requires { ⌜ n ≤ most ⌝ }
     ensures { λ r. ⌜ r ≡ Answers.asNumber (Parsed.repeated (Leaves.counting most (now (s .entry))) (length (now (s .entry))) at n) ⌝ }
 {
-    match digit_at(s, at) {
-        Natural::Not => ReadNumber::Got(at, n),
-        Natural::Is(d) => {
-            let longer = n as usize * 10 + d;
-            if longer <= most as usize {
-                digits(most, s, at + 1, longer as u32)
-            } else {
-                ReadNumber::Bad(at)
+    let mut end = at;
+    let mut value = n;
+    loop {
+        match digit_at(s, end) {
+            Natural::Not => return ReadNumber::Got(end, value),
+            Natural::Is(d) => {
+                let longer = value as usize * 10 + d;
+                if longer > most as usize {
+                    return ReadNumber::Bad(end);
+                }
+                value = longer as u32;
+                end += 1;
             }
         }
     }
