@@ -7,6 +7,7 @@ use borrow.Author.Tests.{eq-eqb, ne-eqb, ltb-true, ltb-false}
 use lib.Dec.{ltb}
 use lib.ListN.{length}
 use Rattle.whole.specs.declared.Operator.{Operator}
+use Rattle.whole.specs.declared.Operator.the-variants.{Times}
 use Rattle.terms.specs.declared.AtomStart.{AtomStart}
 use Rattle.terms.specs.declared.AtomStart.the-variants as AtomStart
 use Rattle.terms.specs.declared.Junction.the-variants.{Both, Either}
@@ -35,6 +36,10 @@ module _ (b : ℕ) where
   pub star-none : (b ≡ 42 → ⊥) → star b ≡ none
   unfolding star
   star-none n = rw (ne-eqb b 42 n, star)
+
+  pub star-some : b ≡ 42 → star b ≡ some Times
+  unfolding star
+  star-some e = ap star e
 
   pub starts-decimal : 48 ≤ b → b ≤ 57 → startOf b ≡ Start.Decimal
   unfolding startOf

@@ -29,16 +29,6 @@ const LARGEST: u32 = 2147483647;
 // "At most 8 brackets are open at once."
 pub const BRACKETS: usize = 8;
 
-// "factors joined by `*`"
-fn star_at(s: &[u8], at: usize) -> OperatorFound
-    ensures { λ r. ⌜ r ≡ asOperator (Expressions.star (byteAt (now (s .entry)) at)) ⌝ }
-{
-    if leaves::byte_at(s, at) == b'*' {
-        return OperatorFound::Is(Operator::Times);
-    }
-    OperatorFound::Nothing
-}
-
 // One of two bytes, each with its operator.
 fn among(first: u8, o: Operator, second: u8, p: Operator, b: u8) -> OperatorFound
     ensures { λ r. ⌜ r ≡ asOperator (Expressions.among first o second p b) ⌝ }
@@ -178,13 +168,18 @@ fn multiplied(
 ) -> ReadValue
     ensures { λ r. ⌜ r ≡ asValue (Readers.multipliedRead (now (cells .entry)) around (now (s .entry)) left at a) ⌝ }
 {
-    match star_at(s, at) {
-        OperatorFound::Nothing => ReadValue::Got(at, a),
-        OperatorFound::Is(o) => match factor(s, at + 1, cells, around, left) {
-            ReadValue::Bad(p) => ReadValue::Bad(p),
-            ReadValue::Got(p, b) => multiplied(s, p, whole::applied(o, a, b), cells, around, left),
-        },
+    let mut end = at;
+    let mut value = a;
+    while leaves::byte_at(s, end) == b'*' {
+        match factor(s, end + 1, cells, around, left) {
+            ReadValue::Bad(p) => return ReadValue::Bad(p),
+            ReadValue::Got(p, b) => {
+                value = whole::applied(Operator::Times, value, b);
+                end = p;
+            }
+        }
     }
+    ReadValue::Got(end, value)
 }
 
 // "a product is factors joined by `*`"
@@ -201,12 +196,19 @@ fn product(s: &[u8], at: usize, cells: &[i32], around: Around, left: usize) -> R
 fn summed(s: &[u8], at: usize, a: Worked, cells: &[i32], around: Around, left: usize) -> ReadValue
     ensures { λ r. ⌜ r ≡ asValue (Readers.summedRead (now (cells .entry)) around (now (s .entry)) left at a) ⌝ }
 {
-    match sign_at(s, at) {
-        OperatorFound::Nothing => ReadValue::Got(at, a),
-        OperatorFound::Is(o) => match product(s, at + 1, cells, around, left) {
-            ReadValue::Bad(p) => ReadValue::Bad(p),
-            ReadValue::Got(p, b) => summed(s, p, whole::applied(o, a, b), cells, around, left),
-        },
+    let mut end = at;
+    let mut value = a;
+    loop {
+        match sign_at(s, end) {
+            OperatorFound::Nothing => return ReadValue::Got(end, value),
+            OperatorFound::Is(o) => match product(s, end + 1, cells, around, left) {
+                ReadValue::Bad(p) => return ReadValue::Bad(p),
+                ReadValue::Got(p, b) => {
+                    value = whole::applied(o, value, b);
+                    end = p;
+                }
+            },
+        }
     }
 }
 

@@ -1,20 +1,20 @@
 -- The readers of expressions meet their contracts: one proof of the cycle of their calls. The measure is that of document 01, the count of brackets
 -- still allowed and then the length left, with a rank that orders the readers at one place. Assumes nothing.
-use Prim.Native.Nat.{_+_, _<_, ℕ}
+use Prim.Native.Nat.{_+_, _-_, _≤_, _<_, ℕ}
 use borrow.Author.Needs.{needs}
 use borrow.Fn.Kinds.{In}
 use borrow.Fn.PlainCycle.{Measures, is, falls, and}
 use denote.Ref.{now}
 use lib.ListN.{length}
 use mathlib.Core.Option.{some}
-use mathlib.Core.Path.{_≡_, sym, ap, _∙_}
+use mathlib.Core.Path.{_≡_, refl, sym, ap, _∙_}
 use native.Mathlib.Omega.{arith}
 use Rattle.terms.proofs.Answers.{value-got, value-bad, operator-some, operator-none}
 use Rattle.terms.proofs.Moving.{within-text}
 use Rattle.terms.proofs.Nesting.{closed-fail, closed-go, closed-none, factor-by, opened-none, opened-some, positive, weight, weight-rank, weight-on, weight-inside}
 use Rattle.terms.proofs.Onward.{moves-factor, moves-product, moves-sum, moves-opened, moves-expression, expression-is}
 use Rattle.terms.proofs.Series.{operator-within, series-go, series-fail, joined-stop, joined-go, joined-fail, once-go, once-fail}
-use Rattle.terms.proofs.Starts.{star-zero, sign-zero, comparison-zero, start-within}
+use Rattle.terms.proofs.Starts.{star-none, star-some, star-zero, sign-zero, comparison-zero, start-within}
 use Rattle.terms.proofs.expressions.+bracketed+compared+expression+factor+multiplied+product+sum+summed.Lts-bracketed as bracketed-lts
 use Rattle.terms.proofs.expressions.+bracketed+compared+expression+factor+multiplied+product+sum+summed.Lts-compared as compared-lts
 use Rattle.terms.proofs.expressions.+bracketed+compared+expression+factor+multiplied+product+sum+summed.Lts-expression as expression-lts
@@ -41,7 +41,6 @@ use Rattle.terms.proofs.expressions.number.Reads as number-reads
 use Rattle.terms.proofs.expressions.product.Kinds as product-kinds
 use Rattle.terms.proofs.expressions.product.Reads as product
 use Rattle.terms.proofs.expressions.sign_at.Reads as sign-at-reads
-use Rattle.terms.proofs.expressions.star_at.Reads as star-at-reads
 use Rattle.terms.proofs.expressions.start_at.Reads as start-at-reads
 use Rattle.terms.proofs.expressions.sum.Kinds as sum-kinds
 use Rattle.terms.proofs.expressions.sum.Reads as sum
@@ -59,6 +58,7 @@ use Rattle.terms.specs.Readers.{multipliedRead, summedRead}
 use Rattle.terms.specs.declared.ReadValue.the-variants.{Got}
 use Rattle.whole.proofs.applied.Reads as applied-reads
 use Rattle.whole.specs.Whole.{applied}
+use Rattle.whole.specs.declared.Operator.the-variants.{Times}
 
 abbrev μ-bracketed : Measures 2 bracketed-kinds.ps ℕ
 μ-bracketed κs a = weight (length (a .0 .now)) (a .1 .1 .1 .1 .0) (a .1 .0) 0
@@ -151,7 +151,7 @@ abbrev factor-claims : ℕ → factor-lts.Claims
 factor-claims t = (start-at-reads.Asked, start-at-reads.Learnt, number-reads.Asked, number-reads.Learnt, variable-reads.Asked, variable-reads.Learnt, itself-reads.Asked, itself-reads.Learnt, named-reads.Asked, named-reads.Learnt, caller-reads.Asked, caller-reads.Learnt, bracketed-below t, bracketed.Post)
 
 abbrev multiplied-claims : ℕ → multiplied-lts.Claims
-multiplied-claims t = (star-at-reads.Asked, star-at-reads.Learnt, factor-below t, factor.Post, applied-reads.Asked, applied-reads.Learnt, multiplied-below t, multiplied.Post)
+multiplied-claims t = (byte-at-reads.Asked, byte-at-reads.Learnt, factor-below t, factor.Post, applied-reads.Asked, applied-reads.Learnt)
 
 abbrev product-claims : ℕ → product-lts.Claims
 product-claims t = (factor-below t, factor.Post, multiplied-below t, multiplied.Post)
@@ -160,16 +160,31 @@ abbrev sum-claims : ℕ → sum-lts.Claims
 sum-claims t = (product-below t, product.Post, summed-below t, summed.Post)
 
 abbrev summed-claims : ℕ → summed-lts.Claims
-summed-claims t = (sign-at-reads.Asked, sign-at-reads.Learnt, product-below t, product.Post, applied-reads.Asked, applied-reads.Learnt, summed-below t, summed.Post)
+summed-claims t = (sign-at-reads.Asked, sign-at-reads.Learnt, product-below t, product.Post, applied-reads.Asked, applied-reads.Learnt)
+
+-- the invariants: what is read from here on is what is read from the start, and the place is no earlier one
+abbrev multiplied-Inv-loop : multiplied-lts.InvT-loop
+multiplied-Inv-loop s at cells around left end₀ value₀ end value =
+    (end₀ ≤ end) × (multipliedRead cells around s left end₀ value₀ ≡ multipliedRead cells around s left end value)
+
+abbrev multiplied-μ-loop : multiplied-lts.MeasureT-loop
+multiplied-μ-loop s at cells around left end₀ value₀ end value = length s - end
+
+abbrev summed-Inv-loop : summed-lts.InvT-loop
+summed-Inv-loop s at cells around left end₀ value₀ end value =
+    (end₀ ≤ end) × (summedRead cells around s left end₀ value₀ ≡ summedRead cells around s left end value)
+
+abbrev summed-μ-loop : summed-lts.MeasureT-loop
+summed-μ-loop s at cells around left end₀ value₀ end value = length s - end
 
 -- the operator that `multiplied` found
-multiplied-operator : (t : ℕ) (c : multiplied-lts.After-o (multiplied-claims t) (multiplied-at t) multiplied.Post)
-    → starOf (byteAt (c .before .before .before .before .args .s .now) (c .before .before .before .before .args .at)) ≡ some (c .o .given .0 .0)
-multiplied-operator t c = operator-some _ _ (sym (c .before .before .star-at .ensures) ∙ c .o .given .1)
+multiplied-operator : (t : ℕ) (c : multiplied-lts.Then1 (multiplied-claims t) (multiplied-at t) multiplied.Post multiplied-Inv-loop multiplied-μ-loop)
+    → starOf (byteAt (c .before .before .before .before .args .s .now) (c .before .before .loop .end)) ≡ some Times
+multiplied-operator t c = star-some _ (sym (c .before .byte-at .ensures) ∙ c .if1 .taken)
 
 -- the operator that `summed` found
-summed-operator : (t : ℕ) (c : summed-lts.After-o (summed-claims t) (summed-at t) summed.Post)
-    → signOf (byteAt (c .before .before .before .before .args .s .now) (c .before .before .before .before .args .at)) ≡ some (c .o .given .0 .0)
+summed-operator : (t : ℕ) (c : summed-lts.After-o (summed-claims t) (summed-at t) summed.Post summed-Inv-loop summed-μ-loop)
+    → signOf (byteAt (c .before .before .before .before .before .args .s .now) (c .before .before .before .loop .end)) ≡ some (c .o .given .0 .0)
 summed-operator t c = operator-some _ _ (sym (c .before .before .sign-at .ensures) ∙ c .o .given .1)
 
 -- the operator that `compared` found
@@ -387,69 +402,74 @@ factor-returns-6 : (t : ℕ) → factor-lts.Need-returns-6 (factor-claims t) (fa
 unfolding factorBy asValue
 factor-returns-6 t c = sym (ap asValue (factor-by _ _ _ _ _ _ (sym (c .before .before .start-at .ensures) ∙ c .enum-told6 .given .1)))
 
-multiplied-star-at-requires : (t : ℕ) → multiplied-lts.Need-star-at-requires (multiplied-claims t) (multiplied-at t) multiplied.Post
-multiplied-star-at-requires t c κs = search needs
+multiplied-loop-holds : (t : ℕ) → multiplied-lts.Need-loop-holds (multiplied-claims t) (multiplied-at t) multiplied.Post multiplied-Inv-loop multiplied-μ-loop
+multiplied-loop-holds t c = (omega arith, refl)
 
-multiplied-enum-told : (t : ℕ) → multiplied-lts.Need-enum-told (multiplied-claims t) (multiplied-at t) multiplied.Post
-multiplied-enum-told t c = search needs
+multiplied-byte-at-requires : (t : ℕ) → multiplied-lts.Need-byte-at-requires (multiplied-claims t) (multiplied-at t) multiplied.Post multiplied-Inv-loop multiplied-μ-loop
+multiplied-byte-at-requires t c κs = search needs
 
-multiplied-enum-known-o : (t : ℕ) → multiplied-lts.Need-enum-known-o (multiplied-claims t) (multiplied-at t) multiplied.Post
-multiplied-enum-known-o t c = search needs
-
-multiplied-add-factor : (t : ℕ) → multiplied-lts.Need-add-factor (multiplied-claims t) (multiplied-at t) multiplied.Post
+multiplied-add-factor : (t : ℕ) → multiplied-lts.Need-add-factor (multiplied-claims t) (multiplied-at t) multiplied.Post multiplied-Inv-loop multiplied-μ-loop
 multiplied-add-factor t c =
-    let s = c .before .before .before .before .before in
-    let w = operator-within starOf star-zero (s .args .s .now) (s .args .at) _ (multiplied-operator t (c .before)) in
+    let s = c .before .before .before .before in
+    let l = c .before .before .loop in
+    let w = operator-within starOf star-zero (s .args .s .now) (l .end) _ (multiplied-operator t c) in
     omega arith
 
-multiplied-factor-requires : (t : ℕ) → multiplied-lts.Need-factor-requires (multiplied-claims t) (multiplied-at t) multiplied.Post
+multiplied-factor-requires : (t : ℕ) → multiplied-lts.Need-factor-requires (multiplied-claims t) (multiplied-at t) multiplied.Post multiplied-Inv-loop multiplied-μ-loop
 multiplied-factor-requires t c κs =
-    let s = c .before .before .before .before .before in
-    let w = operator-within starOf star-zero (s .args .s .now) (s .args .at) _ (multiplied-operator t (c .before)) in
+    let s = c .before .before .before .before in
+    let l = c .before .before .loop in
+    let w = operator-within starOf star-zero (s .args .s .now) (l .end) _ (multiplied-operator t c) in
+    let i = l .inv .0 in
     let e = s .pre .0 in
-    (omega (arith, weight-on (length (s .args .s .now)) (s .args .left) (s .args .at) (s .args .at + 1) 1 2 w (omega arith) (omega arith)), tt)
+    (omega (arith, weight-on (length (s .args .s .now)) (s .args .left) (s .args .at) (l .end + 1) 1 2 (omega arith) (omega arith) (omega arith)), tt)
 
-multiplied-enum-known-p : (t : ℕ) → multiplied-lts.Need-enum-known-p (multiplied-claims t) (multiplied-at t) multiplied.Post
+multiplied-enum-known-p : (t : ℕ) → multiplied-lts.Need-enum-known-p (multiplied-claims t) (multiplied-at t) multiplied.Post multiplied-Inv-loop multiplied-μ-loop
 multiplied-enum-known-p t c = search needs
 
-multiplied-enum-known-p-2 : (t : ℕ) → multiplied-lts.Need-enum-known-p-2 (multiplied-claims t) (multiplied-at t) multiplied.Post
-multiplied-enum-known-p-2 t c = search needs
-
-multiplied-applied-requires : (t : ℕ) → multiplied-lts.Need-applied-requires (multiplied-claims t) (multiplied-at t) multiplied.Post
-multiplied-applied-requires t c κs = search needs
-
-multiplied-multiplied-requires : (t : ℕ) → multiplied-lts.Need-multiplied-requires (multiplied-claims t) (multiplied-at t) multiplied.Post
-multiplied-multiplied-requires t c κs =
-    let s = c .before .before .before .before .before .before .before .before .before .before in
-    let w = operator-within starOf star-zero (s .args .s .now) (s .args .at) _ (multiplied-operator t (c .before .before .before .before .before .before)) in
-    let m = moves-factor _ _ _ _ (moves-opened _ _ _ (moves-expression _ _ _) _) _ _ _ (value-got _ _ _ (sym (c .before .before .before .before .factor .ensures) ∙ c .before .before .p2 .given .1)) in
-    let e = s .pre .0 in
-    (omega (arith, weight-on (length (s .args .s .now)) (s .args .left) (s .args .at) (c .before .before .p2 .given .0 .0) 2 2 w (omega arith) (omega arith)), tt)
-
-multiplied-returns : (t : ℕ) → multiplied-lts.Need-returns (multiplied-claims t) (multiplied-at t) multiplied.Post
+multiplied-returns : (t : ℕ) → multiplied-lts.Need-returns (multiplied-claims t) (multiplied-at t) multiplied.Post multiplied-Inv-loop multiplied-μ-loop
 unfolding asValue
 multiplied-returns t c =
-    let s = c .before .before .before .before in
-    sym (ap asValue (joined-stop starOf applied (s .args .s .now) _ (s .args .at) (s .args .a) _ (operator-none _ (sym (c .before .before .star-at .ensures) ∙ c .enum-told .given .1))))
-
-multiplied-returns-2 : (t : ℕ) → multiplied-lts.Need-returns-2 (multiplied-claims t) (multiplied-at t) multiplied.Post
-unfolding asValue
-multiplied-returns-2 t c =
-    let s = c .before .before .before .before .before .before .before .before .before in
-    let o = multiplied-operator t (c .before .before .before .before .before) in
-    sym (ap asValue (joined-fail starOf applied (s .args .s .now) _ (s .args .at) (s .args .a) _ o _
-    (moves-factor _ _ _ _ (moves-opened _ _ _ (moves-expression _ _ _) _)) star-zero (operator-within starOf star-zero (s .args .s .now) (s .args .at) _ o)
+    let s = c .before .before .before .before .before .before .before .before in
+    let l = c .before .before .before .before .before .before .loop in
+    let w = operator-within starOf star-zero (s .args .s .now) (l .end) _ (multiplied-operator t (c .before .before .before .before)) in
+    sym (ap asValue (l .inv .1 ∙ joined-fail starOf applied (s .args .s .now) _ (l .end) (l .value) _ (multiplied-operator t (c .before .before .before .before)) _
+    (moves-factor _ _ _ _ (moves-opened _ _ _ (moves-expression _ _ _) _)) star-zero w
     (value-bad _ _ (sym (c .before .before .before .factor .ensures) ∙ c .before .p .given .1))))
 
-multiplied-returns-3 : (t : ℕ) → multiplied-lts.Need-returns-3 (multiplied-claims t) (multiplied-at t) multiplied.Post
-multiplied-returns-3 t c =
-    let s = c .before .before .before .before .before .before .before .before .before .before .before in
-    let o = multiplied-operator t (c .before .before .before .before .before .before .before) in
-    c .multiplied .ensures
-    ∙ ap (λ w. asValue (multipliedRead (now (s .args .cells)) (s .args .around) (s .args .s .now) (s .args .left) (c .before .before .before .p2 .given .0 .0) w)) (c .before .applied .ensures)
-    ∙ sym (ap asValue (joined-go starOf applied (s .args .s .now) _ (s .args .at) (s .args .a) _ o _
-    (moves-factor _ _ _ _ (moves-opened _ _ _ (moves-expression _ _ _) _)) star-zero (operator-within starOf star-zero (s .args .s .now) (s .args .at) _ o)
-    _ (value-got _ _ _ (sym (c .before .before .before .before .before .factor .ensures) ∙ c .before .before .before .p2 .given .1))))
+multiplied-enum-known-p-2 : (t : ℕ) → multiplied-lts.Need-enum-known-p-2 (multiplied-claims t) (multiplied-at t) multiplied.Post multiplied-Inv-loop multiplied-μ-loop
+multiplied-enum-known-p-2 t c = search needs
+
+multiplied-applied-requires : (t : ℕ) → multiplied-lts.Need-applied-requires (multiplied-claims t) (multiplied-at t) multiplied.Post multiplied-Inv-loop multiplied-μ-loop
+multiplied-applied-requires t c κs = search needs
+
+multiplied-loop-less : (t : ℕ) → multiplied-lts.Need-loop-less (multiplied-claims t) (multiplied-at t) multiplied.Post multiplied-Inv-loop multiplied-μ-loop
+multiplied-loop-less t c =
+    let s = c .before .before .before .before .before .before .before .before .before in
+    let l = c .before .before .before .before .before .before .before .loop in
+    let w = operator-within starOf star-zero (s .args .s .now) (l .end) _ (multiplied-operator t (c .before .before .before .before .before)) in
+    let m = moves-factor _ _ _ _ (moves-opened _ _ _ (moves-expression _ _ _) _) _ _ _ (value-got _ _ _ (sym (c .before .before .before .before .factor .ensures) ∙ c .before .before .p2 .given .1)) in
+    omega arith
+
+multiplied-loop-again : (t : ℕ) → multiplied-lts.Need-loop-again (multiplied-claims t) (multiplied-at t) multiplied.Post multiplied-Inv-loop multiplied-μ-loop
+multiplied-loop-again t c =
+    let s = c .before .before .before .before .before .before .before .before .before in
+    let l = c .before .before .before .before .before .before .before .loop in
+    let w = operator-within starOf star-zero (s .args .s .now) (l .end) _ (multiplied-operator t (c .before .before .before .before .before)) in
+    let m = moves-factor _ _ _ _ (moves-opened _ _ _ (moves-expression _ _ _) _) _ _ _ (value-got _ _ _ (sym (c .before .before .before .before .factor .ensures) ∙ c .before .before .p2 .given .1)) in
+    let i = l .inv .0 in (
+      omega arith,
+      l .inv .1
+          ∙ joined-go starOf applied (s .args .s .now) _ (l .end) (l .value) _ (multiplied-operator t (c .before .before .before .before .before)) _ (moves-factor _ _ _ _ (moves-opened _ _ _ (moves-expression _ _ _) _)) star-zero w _ (value-got _ _ _ (sym (c .before .before .before .before .factor .ensures) ∙ c .before .before .p2 .given .1))
+          ∙ ap (λ v. multipliedRead (now (s .args .cells)) (s .args .around) (s .args .s .now) (s .args .left) (c .before .before .p2 .given .0 .0) v) (sym (c .applied .ensures)),
+    )
+
+multiplied-returns-2 : (t : ℕ) → multiplied-lts.Need-returns-2 (multiplied-claims t) (multiplied-at t) multiplied.Post multiplied-Inv-loop multiplied-μ-loop
+unfolding asValue
+multiplied-returns-2 t c =
+    let s = c .before .before .before .before in
+    let l = c .before .before .loop in
+    sym (ap asValue (l .inv .1 ∙ joined-stop starOf applied (s .args .s .now) _ (l .end) (l .value) _ (star-none _ (λ e. c .if1 .left (c .before .byte-at .ensures ∙ e)))))
 
 product-factor-requires : (t : ℕ) → product-lts.Need-factor-requires (product-claims t) (product-at t) product.Post
 product-factor-requires t c κs =
@@ -515,69 +535,80 @@ sum-returns-2 t c =
     c .summed .ensures
     ∙ sym (ap asValue (series-go signOf applied (s .args .s .now) _ (length (s .args .s .now)) (s .args .at) _ _ (value-got _ _ _ (sym (c .before .before .before .before .product .ensures) ∙ c .before .before .p2 .given .1))))
 
-summed-sign-at-requires : (t : ℕ) → summed-lts.Need-sign-at-requires (summed-claims t) (summed-at t) summed.Post
+summed-loop-holds : (t : ℕ) → summed-lts.Need-loop-holds (summed-claims t) (summed-at t) summed.Post summed-Inv-loop summed-μ-loop
+summed-loop-holds t c = (omega arith, refl)
+
+summed-sign-at-requires : (t : ℕ) → summed-lts.Need-sign-at-requires (summed-claims t) (summed-at t) summed.Post summed-Inv-loop summed-μ-loop
 summed-sign-at-requires t c κs = search needs
 
-summed-enum-told : (t : ℕ) → summed-lts.Need-enum-told (summed-claims t) (summed-at t) summed.Post
+summed-enum-told : (t : ℕ) → summed-lts.Need-enum-told (summed-claims t) (summed-at t) summed.Post summed-Inv-loop summed-μ-loop
 summed-enum-told t c = search needs
 
-summed-enum-known-o : (t : ℕ) → summed-lts.Need-enum-known-o (summed-claims t) (summed-at t) summed.Post
-summed-enum-known-o t c = search needs
-
-summed-add-product : (t : ℕ) → summed-lts.Need-add-product (summed-claims t) (summed-at t) summed.Post
-summed-add-product t c =
-    let s = c .before .before .before .before .before in
-    let w = operator-within signOf sign-zero (s .args .s .now) (s .args .at) _ (summed-operator t (c .before)) in
-    omega arith
-
-summed-product-requires : (t : ℕ) → summed-lts.Need-product-requires (summed-claims t) (summed-at t) summed.Post
-summed-product-requires t c κs =
-    let s = c .before .before .before .before .before in
-    let w = operator-within signOf sign-zero (s .args .s .now) (s .args .at) _ (summed-operator t (c .before)) in
-    let e = s .pre .0 in
-    (omega (arith, weight-on (length (s .args .s .now)) (s .args .left) (s .args .at) (s .args .at + 1) 3 4 w (omega arith) (omega arith)), tt)
-
-summed-enum-known-p : (t : ℕ) → summed-lts.Need-enum-known-p (summed-claims t) (summed-at t) summed.Post
-summed-enum-known-p t c = search needs
-
-summed-enum-known-p-2 : (t : ℕ) → summed-lts.Need-enum-known-p-2 (summed-claims t) (summed-at t) summed.Post
-summed-enum-known-p-2 t c = search needs
-
-summed-applied-requires : (t : ℕ) → summed-lts.Need-applied-requires (summed-claims t) (summed-at t) summed.Post
-summed-applied-requires t c κs = search needs
-
-summed-summed-requires : (t : ℕ) → summed-lts.Need-summed-requires (summed-claims t) (summed-at t) summed.Post
-summed-summed-requires t c κs =
-    let s = c .before .before .before .before .before .before .before .before .before .before in
-    let w = operator-within signOf sign-zero (s .args .s .now) (s .args .at) _ (summed-operator t (c .before .before .before .before .before .before)) in
-    let m = moves-product _ _ _ _ (moves-opened _ _ _ (moves-expression _ _ _) _) _ _ _ (value-got _ _ _ (sym (c .before .before .before .before .product .ensures) ∙ c .before .before .p2 .given .1)) in
-    let e = s .pre .0 in
-    (omega (arith, weight-on (length (s .args .s .now)) (s .args .left) (s .args .at) (c .before .before .p2 .given .0 .0) 4 4 w (omega arith) (omega arith)), tt)
-
-summed-returns : (t : ℕ) → summed-lts.Need-returns (summed-claims t) (summed-at t) summed.Post
+summed-returns : (t : ℕ) → summed-lts.Need-returns (summed-claims t) (summed-at t) summed.Post summed-Inv-loop summed-μ-loop
 unfolding asValue
 summed-returns t c =
-    let s = c .before .before .before .before in
-    sym (ap asValue (joined-stop signOf applied (s .args .s .now) _ (s .args .at) (s .args .a) _ (operator-none _ (sym (c .before .before .sign-at .ensures) ∙ c .enum-told .given .1))))
+    let s = c .before .before .before .before .before in
+    let l = c .before .before .before .loop in
+    sym (ap asValue (l .inv .1 ∙ joined-stop signOf applied (s .args .s .now) _ (l .end) (l .value) _ (operator-none _ (sym (c .before .before .sign-at .ensures) ∙ c .enum-told .given .1))))
 
-summed-returns-2 : (t : ℕ) → summed-lts.Need-returns-2 (summed-claims t) (summed-at t) summed.Post
+summed-enum-known-o : (t : ℕ) → summed-lts.Need-enum-known-o (summed-claims t) (summed-at t) summed.Post summed-Inv-loop summed-μ-loop
+summed-enum-known-o t c = search needs
+
+summed-add-product : (t : ℕ) → summed-lts.Need-add-product (summed-claims t) (summed-at t) summed.Post summed-Inv-loop summed-μ-loop
+summed-add-product t c =
+    let s = c .before .before .before .before .before .before in
+    let l = c .before .before .before .before .loop in
+    let w = operator-within signOf sign-zero (s .args .s .now) (l .end) _ (summed-operator t (c .before)) in
+    omega arith
+
+summed-product-requires : (t : ℕ) → summed-lts.Need-product-requires (summed-claims t) (summed-at t) summed.Post summed-Inv-loop summed-μ-loop
+summed-product-requires t c κs =
+    let s = c .before .before .before .before .before .before in
+    let l = c .before .before .before .before .loop in
+    let w = operator-within signOf sign-zero (s .args .s .now) (l .end) _ (summed-operator t (c .before)) in
+    let i = l .inv .0 in
+    let e = s .pre .0 in
+    (omega (arith, weight-on (length (s .args .s .now)) (s .args .left) (s .args .at) (l .end + 1) 3 4 (omega arith) (omega arith) (omega arith)), tt)
+
+summed-enum-known-p : (t : ℕ) → summed-lts.Need-enum-known-p (summed-claims t) (summed-at t) summed.Post summed-Inv-loop summed-μ-loop
+summed-enum-known-p t c = search needs
+
+summed-returns-2 : (t : ℕ) → summed-lts.Need-returns-2 (summed-claims t) (summed-at t) summed.Post summed-Inv-loop summed-μ-loop
 unfolding asValue
 summed-returns-2 t c =
-    let s = c .before .before .before .before .before .before .before .before .before in
-    let o = summed-operator t (c .before .before .before .before .before) in
-    sym (ap asValue (joined-fail signOf applied (s .args .s .now) _ (s .args .at) (s .args .a) _ o _
-    (moves-product _ _ _ _ (moves-opened _ _ _ (moves-expression _ _ _) _)) sign-zero (operator-within signOf sign-zero (s .args .s .now) (s .args .at) _ o)
+    let s = c .before .before .before .before .before .before .before .before .before .before in
+    let l = c .before .before .before .before .before .before .before .before .loop in
+    let w = operator-within signOf sign-zero (s .args .s .now) (l .end) _ (summed-operator t (c .before .before .before .before .before)) in
+    sym (ap asValue (l .inv .1 ∙ joined-fail signOf applied (s .args .s .now) _ (l .end) (l .value) _ (summed-operator t (c .before .before .before .before .before)) _
+    (moves-product _ _ _ _ (moves-opened _ _ _ (moves-expression _ _ _) _)) sign-zero w
     (value-bad _ _ (sym (c .before .before .before .product .ensures) ∙ c .before .p .given .1))))
 
-summed-returns-3 : (t : ℕ) → summed-lts.Need-returns-3 (summed-claims t) (summed-at t) summed.Post
-summed-returns-3 t c =
+summed-enum-known-p-2 : (t : ℕ) → summed-lts.Need-enum-known-p-2 (summed-claims t) (summed-at t) summed.Post summed-Inv-loop summed-μ-loop
+summed-enum-known-p-2 t c = search needs
+
+summed-applied-requires : (t : ℕ) → summed-lts.Need-applied-requires (summed-claims t) (summed-at t) summed.Post summed-Inv-loop summed-μ-loop
+summed-applied-requires t c κs = search needs
+
+summed-loop-less : (t : ℕ) → summed-lts.Need-loop-less (summed-claims t) (summed-at t) summed.Post summed-Inv-loop summed-μ-loop
+summed-loop-less t c =
     let s = c .before .before .before .before .before .before .before .before .before .before .before in
-    let o = summed-operator t (c .before .before .before .before .before .before .before) in
-    c .summed .ensures
-    ∙ ap (λ w. asValue (summedRead (now (s .args .cells)) (s .args .around) (s .args .s .now) (s .args .left) (c .before .before .before .p2 .given .0 .0) w)) (c .before .applied .ensures)
-    ∙ sym (ap asValue (joined-go signOf applied (s .args .s .now) _ (s .args .at) (s .args .a) _ o _
-    (moves-product _ _ _ _ (moves-opened _ _ _ (moves-expression _ _ _) _)) sign-zero (operator-within signOf sign-zero (s .args .s .now) (s .args .at) _ o)
-    _ (value-got _ _ _ (sym (c .before .before .before .before .before .product .ensures) ∙ c .before .before .before .p2 .given .1))))
+    let l = c .before .before .before .before .before .before .before .before .before .loop in
+    let w = operator-within signOf sign-zero (s .args .s .now) (l .end) _ (summed-operator t (c .before .before .before .before .before .before)) in
+    let m = moves-product _ _ _ _ (moves-opened _ _ _ (moves-expression _ _ _) _) _ _ _ (value-got _ _ _ (sym (c .before .before .before .before .product .ensures) ∙ c .before .before .p2 .given .1)) in
+    omega arith
+
+summed-loop-again : (t : ℕ) → summed-lts.Need-loop-again (summed-claims t) (summed-at t) summed.Post summed-Inv-loop summed-μ-loop
+summed-loop-again t c =
+    let s = c .before .before .before .before .before .before .before .before .before .before .before in
+    let l = c .before .before .before .before .before .before .before .before .before .loop in
+    let w = operator-within signOf sign-zero (s .args .s .now) (l .end) _ (summed-operator t (c .before .before .before .before .before .before)) in
+    let m = moves-product _ _ _ _ (moves-opened _ _ _ (moves-expression _ _ _) _) _ _ _ (value-got _ _ _ (sym (c .before .before .before .before .product .ensures) ∙ c .before .before .p2 .given .1)) in
+    let i = l .inv .0 in (
+      omega arith,
+      l .inv .1
+          ∙ joined-go signOf applied (s .args .s .now) _ (l .end) (l .value) _ (summed-operator t (c .before .before .before .before .before .before)) _ (moves-product _ _ _ _ (moves-opened _ _ _ (moves-expression _ _ _) _)) sign-zero w _ (value-got _ _ _ (sym (c .before .before .before .before .product .ensures) ∙ c .before .before .p2 .given .1))
+          ∙ ap (λ v. summedRead (now (s .args .cells)) (s .args .around) (s .args .s .now) (s .args .left) (c .before .before .p2 .given .0 .0) v) (sym (c .applied .ensures)),
+    )
 
 pub +bracketed+compared+expression+factor+multiplied+product+sum+summed-spec :
     {M : Type 1} → statement M
@@ -648,19 +679,18 @@ pub +bracketed+compared+expression+factor+multiplied+product+sum+summed-spec :
     (factor-returns-4 t)
     (factor-returns-5 t)
     (factor-returns-6 t))
-    (λ t. multiplied-lts.spec (multiplied-claims t) (multiplied-at t) multiplied.Post
-    (multiplied-star-at-requires t)
-    (multiplied-enum-told t)
-    (multiplied-enum-known-o t)
+    (λ t. multiplied-lts.spec (multiplied-claims t) (multiplied-at t) multiplied.Post multiplied-Inv-loop multiplied-μ-loop
+    (multiplied-loop-holds t)
+    (multiplied-byte-at-requires t)
     (multiplied-add-factor t)
     (multiplied-factor-requires t)
     (multiplied-enum-known-p t)
+    (multiplied-returns t)
     (multiplied-enum-known-p-2 t)
     (multiplied-applied-requires t)
-    (multiplied-multiplied-requires t)
-    (multiplied-returns t)
-    (multiplied-returns-2 t)
-    (multiplied-returns-3 t))
+    (multiplied-loop-less t)
+    (multiplied-loop-again t)
+    (multiplied-returns-2 t))
     (λ t. product-lts.spec
     (factor-below t, factor.Post, multiplied-below t, multiplied.Post)
     (product-at t)
@@ -681,16 +711,17 @@ pub +bracketed+compared+expression+factor+multiplied+product+sum+summed-spec :
     (sum-summed-requires t)
     (sum-returns t)
     (sum-returns-2 t))
-    λ t. summed-lts.spec (summed-claims t) (summed-at t) summed.Post
+    λ t. summed-lts.spec (summed-claims t) (summed-at t) summed.Post summed-Inv-loop summed-μ-loop
+    (summed-loop-holds t)
     (summed-sign-at-requires t)
     (summed-enum-told t)
+    (summed-returns t)
     (summed-enum-known-o t)
     (summed-add-product t)
     (summed-product-requires t)
     (summed-enum-known-p t)
+    (summed-returns-2 t)
     (summed-enum-known-p-2 t)
     (summed-applied-requires t)
-    (summed-summed-requires t)
-    (summed-returns t)
-    (summed-returns-2 t)
-    (summed-returns-3 t)
+    (summed-loop-less t)
+    (summed-loop-again t)
