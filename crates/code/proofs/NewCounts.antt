@@ -1,5 +1,5 @@
--- A `new` has at most one argument more than its text has bytes. Assumes nothing.
-use Prim.Native.Nat.{ℕ, zero, suc, _+_, _≤_}
+-- A `new` names one of the classes, and has at most one argument more than its text has bytes. Assumes nothing.
+use Prim.Native.Nat.{ℕ, zero, suc, _+_, _-_, _≤_, _<_}
 use Prim.Native.Char.{code}
 use mathlib.Core.Bool.{Bool, true, false}
 use mathlib.Core.List.{List, [], _∷_, _++_}
@@ -12,7 +12,9 @@ use Rattle.terms.specs.declared.Limits.{Limits}
 use Rattle.terms.specs.Bytes.{Text, byteAt}
 use Rattle.terms.specs.Expressions.{Reading}
 use Rattle.terms.specs.Guards.{GuardReading}
+use Rattle.terms.specs.Leaves.{decimal}
 use Rattle.terms.specs.Parsed.{Parsed, got, bad, next, mapped, word, ended, repeated, joining}
+use Rattle.terms.proofs.Digits.{decimal-below}
 use Rattle.terms.proofs.Following.{next-mapped, repeated-none, repeated-some, joining-none, joining-some}
 use Rattle.code.specs.declared.Form.{Form}
 use Rattle.code.specs.declared.Form.the-variants as Form
@@ -29,10 +31,11 @@ gives-of : {A : Type 0} (P : A → Type 0) (q : Parsed A) (p : ℕ) (a : A) → 
 gives-of P q p a e h = subst (Gives P) e h
 
 -- a property goes past readings that follow one another, past maps and past the end of the text
-gives-next : {A B : Type 0} (P : B → Type 0) (q : Parsed A) (k : ℕ → A → Parsed B) → ((at : ℕ) (a : A) → Gives P (k at a)) → Gives P (next q k)
+gives-then : {A B : Type 0} (Q : A → Type 0) (P : B → Type 0) (q : Parsed A) (k : ℕ → A → Parsed B)
+    → Gives Q q → ((at : ℕ) (a : A) → Q a → Gives P (k at a)) → Gives P (next q k)
 unfolding next
-gives-next P (got at a) k h = h at a
-gives-next P (bad at) k h = tt
+gives-then Q P (got at a) k g h = h at a g
+gives-then Q P (bad at) k g h = tt
 
 gives-mapped : {A B : Type 0} (Q : A → Type 0) (P : B → Type 0) (h : A → B) (q : Parsed A) → ((a : A) → Q a → P (h a)) → Gives Q q → Gives P (mapped h q)
 unfolding mapped
@@ -42,6 +45,16 @@ gives-mapped Q P h (bad at) f g = tt
 gives-any : {A : Type 0} (q : Parsed A) → Gives (λ _. Unit {0}) q
 gives-any (got at a) = tt
 gives-any (bad at) = tt
+
+gives-next : {A B : Type 0} (P : B → Type 0) (q : Parsed A) (k : ℕ → A → Parsed B) → ((at : ℕ) (a : A) → Gives P (k at a)) → Gives P (next q k)
+gives-next P q k h = gives-then (λ _. Unit) P q k (gives-any q) (λ at a _. h at a)
+
+gives-decimal : (most : ℕ) (s : Text) (at : ℕ) → Gives (λ n. n ≤ most) (decimal most s at)
+gives-decimal most s at = go (decimal most s at) refl
+  where
+    go : (q : Parsed ℕ) → decimal most s at ≡ q → Gives (λ n. n ≤ most) q
+    go (got p n) e = decimal-below most s at p n e
+    go (bad p) e = tt
 
 gives-ended : {A : Type 0} (P : A → Type 0) (s : Text) (q : Parsed A) → Gives P q → Gives P (ended s q)
 unfolding ended
@@ -84,18 +97,19 @@ module _ {A G : Type 0} (R : Reading A) (Q : GuardReading A G) (lim : Limits) (c
       go true = gives-listed more (at + 1)
       go false = omega arith
 
-  -- a statement that is a `new` has at most one argument more than the text has bytes
+  -- a statement that is a `new` names one of the classes, and has at most one argument more than the text has bytes
   abbrev Small : Statement A G → Type 0
-  Small st = (m : ℕ × ℕ) → newOf st ≡ some m → m .1 ≤ length s + 1
+  Small st = (m : ℕ × ℕ) → newOf st ≡ some m → (m .0 ≤ classes - 1) × (m .1 ≤ length s + 1)
 
   no-new : (st : Statement A G) → newOf st ≡ none → Small st
   no-new st e m f = absurd (let z : _≡_ {A = ℕ} 0 1 = cc in omega arith)
 
-  one-new : (st : Statement A G) (k l : ℕ) → newOf st ≡ some (k, l) → l ≤ length s + 1 → Small st
-  one-new st k l e h m f =
+  one-new : (st : Statement A G) (k l : ℕ) → newOf st ≡ some (k, l) → k ≤ classes - 1 → l ≤ length s + 1 → Small st
+  one-new st k l e b h m f =
       let g : (k, l) ≡ m = cc in
+      let y : k ≡ m .0 = ap (λ (x : ℕ × ℕ). x .0) g in
       let z : l ≡ m .1 = ap (λ (x : ℕ × ℕ). x .1) g in
-      omega arith
+      (omega arith, omega arith)
 
   -- a form that is no `new`
   gives-none : {B : Type 0} (f : B → Statement A G) (q : Parsed B) → ((b : B) → newOf (f b) ≡ none) → Gives Small (mapped f q)
@@ -105,8 +119,8 @@ module _ {A G : Type 0} (R : Reading A) (Q : GuardReading A G) (lim : Limits) (c
   unfolding rest newOf
   gives-rest Form.Skip at = no-new skip refl
   gives-rest Form.Set at = gives-next _ _ _ (λ p x. gives-none (set x) _ (λ a. refl))
-  gives-rest Form.New at = gives-next _ _ _ (λ p x. gives-next _ _ _ (λ q k.
-      gives-mapped (λ (es : List A). length es ≤ length s + 1) _ (new x k) _ (λ es h. one-new (new x k es) k (length es) refl h) (gives-arguments (length s) q)))
+  gives-rest Form.New at = gives-next _ _ _ (λ p x. gives-then _ _ _ _ (gives-decimal (classes - 1) s p) (λ q k b.
+      gives-mapped (λ (es : List A). length es ≤ length s + 1) _ (new x k) _ (λ es h. one-new (new x k es) k (length es) refl b h) (gives-arguments (length s) q)))
   gives-rest Form.Call at = gives-next _ _ _ (λ p x. gives-next _ _ _ (λ q a. gives-next _ _ _ (λ r j. gives-none (call x a j) _ (λ es. refl))))
   gives-rest Form.Get at = gives-next _ _ _ (λ p x. gives-none (get x) _ (λ y. refl))
   gives-rest Form.Await at = gives-none await _ (λ g. refl)
@@ -126,7 +140,14 @@ module _ {A G : Type 0} (R : Reading A) (Q : GuardReading A G) (lim : Limits) (c
       go none = tt
       go (some f) = gives-ended _ s _ (gives-next _ (word (wordOf f) s 0) _ (λ at _. gives-rest f at))
 
--- a `new` has at most one argument more than its text has bytes
-pub new-count : {A G : Type 0} (R : Reading A) (Q : GuardReading A G) (lim : Limits) (classes : ℕ) (s : Text) (p : ℕ) (st : Statement A G) (n : ℕ × ℕ)
-    → statement R Q lim classes s ≡ got p st → newOf st ≡ some n → n .1 ≤ length s + 1
-new-count R Q lim classes s p st n e = gives-of _ _ p st e (gives-statement R Q lim classes s) n
+-- a `new` that was read: its class, and how many arguments it has
+module _ {A G : Type 0} (R : Reading A) (Q : GuardReading A G) (lim : Limits) (classes : ℕ) (s : Text) (p : ℕ) (st : Statement A G) (n : ℕ × ℕ)
+    (e : statement R Q lim classes s ≡ got p st) (f : newOf st ≡ some n) where
+  small : (n .0 ≤ classes - 1) × (n .1 ≤ length s + 1)
+  small = gives-of _ _ p st e (gives-statement R Q lim classes s) n f
+
+  pub new-class : 0 < classes → n .0 < classes
+  new-class h = omega (arith, small .0)
+
+  pub new-count : n .1 ≤ length s + 1
+  new-count = small .1
