@@ -6,7 +6,7 @@ use mathlib.Core.Path.{_≡_, refl, sym, ap, subst, _∙_}
 use native.Mathlib.Omega.{arith}
 use borrow.Author.Tests.{lt-ltb, le-ltb, eq-eqb, ne-eqb}
 use lib.Dec.{ltb}
-use lib.ListN.{length, length-append}
+use lib.ListN.{length}
 use Rattle.code.specs.Blocks.{Block}
 use Rattle.code.specs.OpenBlocks.{packed}
 use Rattle.code.specs.Statements.{Code}
@@ -17,29 +17,26 @@ use Rattle.model.specs.declared.MethodCounts.{MethodCounts}
 use Rattle.model.specs.declared.Key.{Key}
 use Rattle.model.specs.declared.Key.the-variants as Key
 use Rattle.model.specs.Counts.{ofModel, ofClass, ofMethod, isLast}
-use Rattle.model.specs.Automaton.{InModel, InClass, InMethod, State, modelCounted, classCounted, methodCounted, counted, withModel, withClass, withMethod, classJoined, classClosed, nextMethod, methodJoined, methodClosed, methodsBegun, linesCounted, linesBegun, numbered, creationsOf, codeJoined, creationsJoined, lineJoined, stated}
+use Rattle.model.specs.Automaton.{InModel, InClass, InMethod, State, modelCounted, classCounted, methodCounted, counted, withModel, withClass, withMethod, classJoined, classClosed, nextMethod, methodJoined, methodClosed, methodsBegun, linesCounted, linesBegun, numbered, codeJoined, creationsJoined, lineJoined, stated}
 use Rattle.model.proofs.TableRows.{append-length}
 
 -- a class more is read, and a method more
 abbrev pub classMore : ModelCounts → ModelCounts
-classMore m = record { classes = m .classes; total = m .total; creations = m .creations; read = m .read + 1 }
+classMore m = record { classes = m .classes; total = m .total; read = m .read + 1 }
 
 abbrev pub methodMore : ClassCounts → ClassCounts
 methodMore c = record { attrs = c .attrs; given = c .given; run = c .run; methods = c .methods; read = c .read + 1 }
 
--- a code line more, and perhaps a creation
+-- a code line more
 abbrev pub lineMore : MethodCounts → ℕ → MethodCounts
 lineMore o blocks = record { params = o .params; locals = o .locals; lines = o .lines; read = o .read + 1; blocks = blocks }
-
-abbrev pub creationsMore : ModelCounts → ℕ → ModelCounts
-creationsMore m n = record { classes = m .classes; total = m .total; creations = m .creations + n; read = m .read }
 
 -- `methods=` and `lines=`
 abbrev pub methodsSet : ClassCounts → ℕ → ClassCounts
 methodsSet c n = record { attrs = c .attrs; given = c .given; run = c .run; methods = n; read = 0 }
 
 abbrev pub linesSummed : ModelCounts → ℕ → ModelCounts
-linesSummed m n = record { classes = m .classes; total = m .total + n; creations = m .creations; read = m .read }
+linesSummed m n = record { classes = m .classes; total = m .total + n; read = m .read }
 
 abbrev pub linesSet : MethodCounts → ℕ → MethodCounts
 linesSet o n = record { params = o .params; locals = o .locals; lines = n; read = 0; blocks = 0 }
@@ -71,9 +68,10 @@ module _ (st : State) where
   unfolding codeJoined methodCounted counted
   code-joined c bs = rw (append-length (st .method .done) c) refl
 
-  creations-joined : (at : ℕ) (c : Code) → modelCounted (creationsJoined at st c) ≡ creationsMore (counted st .model) (length (creationsOf at c))
+  -- a creation is not counted
+  creations-joined : (at : ℕ) (c : Code) → modelCounted (creationsJoined at st c) ≡ counted st .model
   unfolding creationsJoined modelCounted counted
-  creations-joined at c = rw (length-append (st .model .creations) (creationsOf at c)) refl
+  creations-joined at c = refl
 
 -- counts that are those of a state
 module _ (k : Counts) (st : State) (e : k ≡ counted st) where
@@ -142,9 +140,9 @@ module _ (k : Counts) (st : State) (e : k ≡ counted st) where
   unfolding numbered counted withModel withClass withMethod modelCounted classCounted methodCounted
   number-creol n = ap (λ i. ofModel i Key.Classes (i .model)) e
 
-  pub number-classes : (n : ℕ) → ofModel k Key.Class (record { classes = n; total = k .model .total; creations = k .model .creations; read = k .model .read }) ≡ counted (numbered Key.Classes st n)
+  pub number-classes : (n : ℕ) → ofModel k Key.Class (record { classes = n; total = k .model .total; read = k .model .read }) ≡ counted (numbered Key.Classes st n)
   unfolding numbered counted withModel withClass withMethod modelCounted classCounted methodCounted
-  number-classes n = ap (λ i. ofModel i Key.Class (record { classes = n; total = i .model .total; creations = i .model .creations; read = i .model .read })) e
+  number-classes n = ap (λ i. ofModel i Key.Class (record { classes = n; total = i .model .total; read = i .model .read })) e
 
   pub number-class : (n : ℕ) → ofClass k Key.Attrs (k .class) ≡ counted (numbered Key.Class st n)
   unfolding numbered counted withModel withClass withMethod modelCounted classCounted methodCounted
@@ -189,13 +187,12 @@ module _ (k : Counts) (st : State) (e : k ≡ counted st) where
   of-key told n t = ap (λ key. counted (numbered key st n)) (sym t ∙ ap (λ i. i .key) e)
 
   -- a code line joins its method
-  pub line-joined : (at : ℕ) (c : Code) (bs : List Block) (n blocks : ℕ) → n ≡ length (creationsOf at c) → blocks ≡ packed bs
-      → ofMethod (ofModel k Key.Code (creationsMore (k .model) n)) Key.Code (lineMore (k .method) blocks) ≡ counted (lineJoined at st c bs)
+  pub line-joined : (at : ℕ) (c : Code) (bs : List Block) (blocks : ℕ) → blocks ≡ packed bs
+      → ofMethod k Key.Code (lineMore (k .method) blocks) ≡ counted (lineJoined at st c bs)
   unfolding lineJoined
-  line-joined at c bs n blocks d f =
-      ap (λ i. ofMethod (ofModel i Key.Code (creationsMore (i .model) n)) Key.Code (lineMore (i .method) blocks)) e
-      ∙ ap (λ m. ofMethod (ofModel (counted st) Key.Code (creationsMore (counted st .model) m)) Key.Code (lineMore (counted st .method) blocks)) d
-      ∙ ap (λ b. ofMethod (ofModel (counted st) Key.Code (creationsMore (counted st .model) (length (creationsOf at c)))) Key.Code (lineMore (counted st .method) b)) f
+  line-joined at c bs blocks f =
+      ap (λ i. ofMethod i Key.Code (lineMore (i .method) blocks)) e
+      ∙ ap (λ b. ofMethod (counted st) Key.Code (lineMore (counted st .method) b)) f
       ∙ ap (λ m. ofMethod (ofModel (counted st) Key.Code m) Key.Code (lineMore (counted st .method) (packed bs))) (sym (creations-joined st at c))
       ∙ ap (ofMethod (ofModel (counted st) Key.Code (modelCounted (creationsJoined at st c))) Key.Code) (sym (code-joined st c bs))
       ∙ ap (λ i. ofMethod i Key.Code (methodCounted (codeJoined st c bs))) (sym (with-model st Key.Code (creationsJoined at st c)))

@@ -1,7 +1,7 @@
 -- Between two methods: the next one comes, or the class is whole and its row is put. Assumes nothing.
 use Prim.Native.Nat.{_+_, _≤_, _<_}
 use mathlib.Core.Bool.{Bool, true, false}
-use mathlib.Core.Path.{_≡_, refl, ap, _∙_}
+use mathlib.Core.Path.{_≡_, refl, sym, ap, _∙_}
 use native.Mathlib.Nat.{zero-add}
 use native.Mathlib.Omega.{arith}
 use borrow.Author.Tests.{ltb-true, ltb-false, lt-ltb, le-ltb}
@@ -15,7 +15,8 @@ use Rattle.model.specs.declared.Row.{Row}
 use Rattle.model.specs.Automaton.{State, modelCounted, classCounted, methodCounted, counted, withModel, withClass, classJoined, classClosed, nextMethod}
 use Rattle.model.specs.Belonging.{MethodTold, ClassTold}
 use Rattle.model.specs.Counts.{mostClasses, mostMethods, allLines}
-use Rattle.model.specs.Filling.{classPut, CreationTold, partOf, whole, reached, PartHeld, Held}
+use Rattle.model.specs.Creations.{creationsIn}
+use Rattle.model.specs.Filling.{classPut, partOf, whole, reached, PartHeld, Held}
 use Rattle.model.specs.Model.{Class}
 use Rattle.model.specs.Table.{Table, put, classRow, size, Rows}
 use Rattle.model.proofs.Framing.{Same, same-class, methods-kept, classes-kept, news-kept}
@@ -26,9 +27,8 @@ pub record Between (s : Text) (t : Table) (st : State) : Type 0 where
   pub all : length t ≡ size
   pub classes : st .model .classes ≤ mostClasses
   pub lines : st .model .total ≤ allLines
-  pub news : length (st .model .creations) ≤ st .model .total
   pub told : Rows (ClassTold s (st .model .classes) t (st .model .total)) 0 (st .model .done)
-  pub creations : Rows (CreationTold t) 0 (st .model .creations)
+  pub creations : st .model .creations ≡ creationsIn t (st .model .total)
   pub here : length (st .model .done) < st .model .classes
   pub read : length (st .class .done) ≤ st .class .methods
   pub most : st .class .methods ≤ mostMethods
@@ -83,7 +83,6 @@ module _ (s : Text) (t : Table) (st : State) (b : Between s t st) where
     all = b .all;
     classes = b .classes;
     lines = b .lines;
-    news = b .news;
     told = b .told;
     creations = b .creations;
     part = (b .here, h, b .most, b .methods);
@@ -93,9 +92,9 @@ module _ (s : Text) (t : Table) (st : State) (b : Between s t st) where
   unfoldable closedTable : Table
   closedTable = put t (classRow (length (st .model .done))) (wholeRow st)
 
-  rows-stay : Same t closedTable (length (st .model .done)) 128 512 512
+  rows-stay : Same t closedTable (length (st .model .done)) 128 512
   unfolding closedTable
-  rows-stay = same-class t (wholeRow st) _ 128 512 512 (length (st .model .done)) (omega arith) (omega arith)
+  rows-stay = same-class t (wholeRow st) _ 128 512 (length (st .model .done)) (omega arith) (omega arith)
 
   class-told : ClassTold s (st .model .classes) closedTable (st .model .total) (length (st .model .done)) (wholeClass st)
   unfolding ClassTold wholeClass wholeRow closedTable
@@ -107,7 +106,7 @@ module _ (s : Text) (t : Table) (st : State) (b : Between s t st) where
         refl,
         refl,
         omega arith,
-        methods-kept s (st .model .classes) t closedTable _ _ k 128 512 512 (st .class .attrs) k (st .class .done) rows-stay (b .lines) (omega arith)
+        methods-kept s (st .model .classes) t closedTable _ _ k 128 512 (st .class .attrs) k (st .class .done) rows-stay (b .lines) (omega arith)
             (omega arith) (b .methods),
       )
 
@@ -116,13 +115,13 @@ module _ (s : Text) (t : Table) (st : State) (b : Between s t st) where
   classes-told =
       let k = length (st .model .done) in
       rows-append _ 0 (st .model .done) (wholeClass st)
-      (classes-kept s (st .model .classes) t closedTable _ _ k 128 512 512 (st .model .done) rows-stay (b .lines) (omega arith) (omega arith)
+      (classes-kept s (st .model .classes) t closedTable _ _ k 128 512 (st .model .done) rows-stay (b .lines) (omega arith) (omega arith)
       (omega arith) (b .told))
       (rw zero-add class-told)
 
-  news-told : Rows (CreationTold closedTable) 0 (classJoined st .creations)
+  news-told : classJoined st .creations ≡ creationsIn closedTable (st .model .total)
   unfolding classJoined
-  news-told = news-kept t closedTable _ 128 512 512 (st .model .creations) rows-stay (omega arith) (b .creations)
+  news-told = b .creations ∙ sym (news-kept t closedTable _ 128 512 rows-stay (st .model .total) (b .lines))
 
   all-stay : length closedTable ≡ size
   unfolding closedTable
@@ -136,7 +135,6 @@ module _ (s : Text) (t : Table) (st : State) (b : Between s t st) where
     all = all-stay;
     classes = b .classes;
     lines = b .lines;
-    news = b .news;
     told = classes-told;
     creations = news-told;
     part = h;
@@ -149,7 +147,6 @@ module _ (s : Text) (t : Table) (st : State) (b : Between s t st) where
     all = all-stay;
     classes = b .classes;
     lines = b .lines;
-    news = b .news;
     told = classes-told;
     creations = news-told;
     part = omega (arith, h, b .here, one-class-more st);

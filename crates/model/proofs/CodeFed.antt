@@ -1,5 +1,5 @@
 -- What a code value makes of a state and of the table, by what the code read of it. Assumes nothing.
-use Prim.Native.Nat.{ℕ, _+_, _≤_, _<_, _^_}
+use Prim.Native.Nat.{ℕ, _+_, _≤_, _<_}
 use mathlib.Core.Option.{Option, some}
 use mathlib.Core.Path.{_≡_, refl, sym, ap, subst, _∙_}
 use native.Mathlib.Omega.{arith}
@@ -19,7 +19,7 @@ use Rattle.code.specs.OpenBlocks.{shapeSaid}
 use Rattle.code.specs.Reader.{statement}
 use Rattle.code.specs.Readers.{statementRead}
 use Rattle.code.specs.Statements.{Code}
-use Rattle.code.proofs.NewCounts.{new-count}
+use Rattle.code.proofs.NewCounts.{new-class, new-count}
 use Rattle.code.proofs.Told.{Told, told-bad, told-got}
 use Rattle.model.specs.declared.Counts.{Counts}
 use Rattle.model.specs.declared.Fed as Fed
@@ -59,12 +59,17 @@ module _ (cells : Cells) (a : Around) (k : Counts) (st : State) (e : k ≡ count
       ap (λ m. statement trees guardTrees m (k .model .classes) value) (l ∙ ap limitsCounted e ∙ limits-same st)
       ∙ ap (λ n. statement trees guardTrees (limitsOf st) n value) (ap (λ i. i .model .classes) e ∙ classes-same st)
 
-  -- the bound of a `new`'s arguments, by which they have a place in the table
+  -- the bounds of a `new`, by which it has a place in the table
   pub new-fits : (said : Declared.Statement) → r .read ≡ Read.Got said → length value ≤ 32768
-      → (class n : ℕ) → newSaid said (r .arguments .count) ≡ some (class, n) → n < 2 ^ 32
-  new-fits said g h class n o =
+      → 0 < counted st .model .classes → counted st .model .classes ≤ 16
+      → (class n : ℕ) → newSaid said (r .arguments .count) ≡ some (class, n) → (class < 16) × (n < 65536)
+  new-fits said g h some-class few class n o =
+      let all : k .model .classes ≡ counted st .model .classes = ap (λ i. i .model .classes) e in
       let t = told-got cells a (k .model .classes) value r q said g in
-      omega (arith, new-count trees guardTrees (a .limits) (k .model .classes) value _ (t .code) (class, n) (t .tree) (sym (t .creates) ∙ o))
+      let new : newOf (t .code) ≡ some (class, n) = sym (t .creates) ∙ o in (
+        omega (arith, new-class trees guardTrees (a .limits) (k .model .classes) value _ (t .code) (class, n) (t .tree) new (omega arith)),
+        omega (arith, new-count trees guardTrees (a .limits) (k .model .classes) value _ (t .code) (class, n) (t .tree) new),
+      )
 
   pub refused-tells : (s : Text) (t : Table) (at p : ℕ) → r .read ≡ Read.Bad p → TellsAfter s (Next.Refused wrongCode) t (codeLine at st value)
   unfolding asFed HeldAfter
@@ -77,7 +82,7 @@ module _ (cells : Cells) (a : Around) (k : Counts) (st : State) (e : k ≡ count
     (s : Text) (place long : ℕ) (w : place + long ≤ length s) (r : ReadCode) (q : r ≡ statementRead cells a (k .model .classes) (take long (drop place s)))
     (t u : Table) (h : Held s t st (counted st)) (c : st .key ≡ Key.Code) where
   pub code-tells : (said : Declared.Statement) → r .read ≡ Read.Got said → (at : ℕ) (f : Fed.Fed)
-      → ((code : Code) → shapeSaid said ≡ shapeOf code → newSaid said (r .arguments .count) ≡ newOf code → f ≡ asFed (blockLine at st code))
+      → ((code : Code) → shapeSaid said ≡ shapeOf code → f ≡ asFed (blockLine at st code))
       → u ≡ filledBy f (λ after. linePut k after at place long (newSaid said (r .arguments .count))) t
       → TellsAfter s f u (codeLine at st (take long (drop place s)))
   code-tells said g at f b v =
@@ -85,7 +90,7 @@ module _ (cells : Cells) (a : Around) (k : Counts) (st : State) (e : k ≡ count
       let x = told-got cells a (k .model .classes) value r q said g in
       let tree : statement trees guardTrees (limitsOf st) (st .model .classes) value ≡ got long (x .code) =
       sym (reading-same cells a k st e l value r q) ∙ x .tree ∙ ap (λ n. got n (x .code)) (part-length s place long w) in
-      let b0 = b (x .code) (x .shape) (x .creates) in
+      let b0 = b (x .code) (x .shape) in
       let line = code-fed at st value long (x .code) tree in
       let same : u ≡ filledBy (asFed (blockLine at st (x .code))) (λ after. linePut (counted st) after at place long (newOf (x .code))) t =
       v

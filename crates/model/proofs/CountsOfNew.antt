@@ -1,29 +1,29 @@
 -- The counts of every `new`, by the rows of the table: what a class is to be given, and the first count that differs. Assumes nothing.
-use Prim.Native.Nat.{ℕ, zero, suc, _+_, _≤_, _<_}
+use Prim.Native.Nat.{ℕ, zero, suc, _+_, _-_, _/_, _%_, _≤_, _<_}
 use mathlib.Core.Bool.{true, false}
-use mathlib.Core.List.{List, [], _∷_}
+use mathlib.Core.List.{List, [], _∷_, _++_}
 use mathlib.Core.Option.{none, some}
 use mathlib.Core.Path.{_≡_, refl, sym, ap, _∙_}
 use native.Mathlib.Nat.{zero-add}
 use native.Mathlib.Numerals.{add-one}
 use native.Mathlib.Omega.{arith}
 use lib.Dec.{eqb}
-use lib.ListN.{length, drop, getElem?, drop-of-length-le}
+use lib.ListN.{length, getElem?}
 use Rattle.whole.specs.Refusals.{accepted, wrongCode}
 use Rattle.terms.specs.Bytes.{Text}
 use Rattle.model.specs.Automaton.{Creation}
 use Rattle.model.specs.Belonging.{ClassTold}
-use Rattle.model.specs.Filling.{CreationTold}
+use Rattle.model.specs.Creations.{creationTold, creationsFrom, newFits}
 use Rattle.model.specs.Judge.{givenTo, countsJudged, model, refusal, verdictOf}
 use Rattle.model.specs.Model.{Class, Model}
-use Rattle.model.specs.Table.{Table, Rows, rowOf, classRow, creationRow}
+use Rattle.model.specs.Table.{Table, Rows, rowOf, classRow, codeRow}
 use Rattle.model.specs.declared.Row.{Row}
 use Rattle.model.proofs.TableRows.{rows-at}
 
--- within a list there is an item, and the list goes on from it
-item-at : {A : Type 0} (xs : List A) (i : ℕ) → i < length xs → (x : A) × (getElem? xs i ≡ some x) × (drop i xs ≡ x ∷ drop (suc i) xs)
+-- within a list there is an item
+item-at : {A : Type 0} (xs : List A) (i : ℕ) → i < length xs → (x : A) × (getElem? xs i ≡ some x)
 item-at [] i h = absurd (omega arith)
-item-at (x ∷ xs) zero h = (x, refl, refl)
+item-at (x ∷ xs) zero h = (x, refl)
 item-at (x ∷ xs) (suc i) h = item-at xs i (omega arith)
 
 item-past : {A : Type 0} (xs : List A) (i : ℕ) → length xs ≤ i → getElem? xs i ≡ none
@@ -59,30 +59,54 @@ module _ (m : Model) (c : Creation) (cs : List Creation) where
   unfolding countsJudged
   counts-differ e = rw (countsJudged, e)
 
--- the `new` at a place, by its row
-module _ (t : Table) (m : Model) (cs : List Creation) (i : ℕ) (x : Row)
-    (told : Rows (CreationTold t) 0 cs) (within : i < length cs) (own : x ≡ rowOf t (creationRow i)) where
-  row-told : (c : Creation) → getElem? cs i ≡ some c → (x .0 ≡ c .at) × (x .1 ≡ c .class) × (x .2 ≡ c .count)
-  unfolding CreationTold
-  row-told c e = rw (own, ← zero-add i) (rows-at (CreationTold t) 0 cs i c told e)
+-- the number of a line that is no `new`, and of one that is
+module _ (m : Model) (n : ℕ) where
+  pub fits-none : n ≡ 0 → newFits m n ≡ true
+  unfolding newFits
+  fits-none e = ap (newFits m) e
 
+  pub fits-some : 0 < n → newFits m n ≡ eqb ((n - 1) / 16) (givenTo m ((n - 1) % 16))
+  unfolding newFits
+  fits-some h = ap (newFits m) e ∙ refl
+    where
+      e : n ≡ suc (n - 1)
+      e = omega arith
+
+-- what a number tells, before other creations
+module _ (m : Model) (at : ℕ) (cs : List Creation) where
   -- one that fits leaves the verdict to those that come after it
-  pub counts-onward : eqb (x .2) (givenTo m (x .1)) ≡ true → countsJudged m (drop i cs) ≡ countsJudged m (drop (i + 1) cs)
-  counts-onward e =
-      let c = item-at cs i within in
-      let p = row-told (c .0) (c .1) in
-      rw (add-one i, c .2) (counts-fit m (c .0) (drop (suc i) cs) (rw (p .1, p .2) at e))
+  told-onward : (n : ℕ) → newFits m n ≡ true → countsJudged m (creationTold at n ++ cs) ≡ countsJudged m cs
+  unfolding creationTold newFits
+  told-onward zero e = refl
+  told-onward (suc n) e = counts-fit m _ cs e
 
   -- the first that does not is refused at its line
-  pub counts-here : eqb (x .2) (givenTo m (x .1)) ≡ false → countsJudged m (drop i cs) ≡ refusal wrongCode (x .0)
-  counts-here e =
-      let c = item-at cs i within in
-      let p = row-told (c .0) (c .1) in
-      rw (c .2, p .0) (counts-differ m (c .0) (drop (suc i) cs) (rw (p .1, p .2) at e))
+  told-here : (n : ℕ) → newFits m n ≡ false → countsJudged m (creationTold at n ++ cs) ≡ refusal wrongCode at
+  unfolding creationTold newFits
+  told-here zero e = absurd (let z : _≡_ {A = ℕ} 0 1 = cc in omega arith)
+  told-here (suc n) e = counts-differ m _ cs e
 
--- past the last one the model is accepted
-pub counts-end : (m : Model) (cs : List Creation) (i : ℕ) → length cs ≤ i → countsJudged m (drop i cs) ≡ model m
-counts-end m cs i h = ap (countsJudged m) (drop-of-length-le cs h) ∙ (unfold countsJudged in refl)
+-- the code row at a place, with those after it
+module _ (t : Table) (m : Model) (i total : ℕ) (within : i < total) where
+  row-first : creationsFrom t i (total - i) ≡ (let x = rowOf t (codeRow i) in creationTold (x .2) (x .3)) ++ creationsFrom t (i + 1) (total - (i + 1))
+  unfolding creationsFrom
+  row-first =
+      let e : total - i ≡ suc (total - (i + 1)) = omega arith in
+      rw (e, add-one) refl
+
+  module _ (x : Row) (own : x ≡ rowOf t (codeRow i)) where
+    pub counts-onward : newFits m (x .3) ≡ true → countsJudged m (creationsFrom t i (total - i)) ≡ countsJudged m (creationsFrom t (i + 1) (total - (i + 1)))
+    counts-onward e = ap (countsJudged m) row-first ∙ told-onward m _ _ _ (rw own at e)
+
+    pub counts-here : newFits m (x .3) ≡ false → countsJudged m (creationsFrom t i (total - i)) ≡ refusal wrongCode (x .2)
+    counts-here e = ap (countsJudged m) row-first ∙ rw own (told-here m _ _ _ (rw own at e))
+
+-- past the last row the model is accepted
+pub counts-end : (t : Table) (m : Model) (i total : ℕ) → total ≤ i → countsJudged m (creationsFrom t i (total - i)) ≡ model m
+unfolding creationsFrom countsJudged
+counts-end t m i total h =
+    let e : total - i ≡ 0 = omega arith in
+    rw e refl
 
 -- the verdicts of both
 pub verdict-refusal : (n at : ℕ) → verdictOf (refusal n at) ≡ record { number = n; line = at }

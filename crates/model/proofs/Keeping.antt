@@ -2,10 +2,10 @@
 use Prim.Native.Nat.{ℕ, _+_, _-_, _≤_, _<_}
 use mathlib.Core.Bool.{Bool, true, false}
 use mathlib.Core.List.{List, [], _∷_, _++_}
-use mathlib.Core.Path.{_≡_, refl, sym, ap, subst}
+use mathlib.Core.Path.{_≡_, refl, sym, ap, subst, _∙_}
 use native.Mathlib.Omega.{arith}
 use borrow.Author.Tests.{eqb-true, eqb-false}
-use lib.ListN.{length, take, drop, length-append}
+use lib.ListN.{length, take, drop}
 use Rattle.terms.specs.Bytes.{Text}
 use Rattle.terms.specs.Parsed.{got}
 use Rattle.terms.specs.Trees.{trees, guardTrees}
@@ -15,14 +15,15 @@ use Rattle.code.specs.Reader.{statement}
 use Rattle.code.specs.Statements.{Code}
 use Rattle.model.specs.declared.Key.{Key}
 use Rattle.model.specs.declared.Key.the-variants as Key
-use Rattle.model.specs.Automaton.{InClass, InMethod, State, begin, freshModel, modelCounted, classCounted, methodCounted, counted, withModel, withClass, withMethod, methodsBegun, linesCounted, linesBegun, numbered, creationsOf, codeJoined, creationsJoined, lineJoined, methodJoined, methodClosed, stated, limitsOf}
+use Rattle.model.specs.Automaton.{InClass, InMethod, State, begin, freshModel, modelCounted, classCounted, methodCounted, counted, withModel, withClass, withMethod, methodsBegun, linesCounted, linesBegun, numbered, codeJoined, creationsJoined, lineJoined, methodJoined, methodClosed, stated, limitsOf}
 use Rattle.model.specs.Belonging.{ClassTold, MethodTold, Belongs}
 use Rattle.model.specs.Counts.{lowest, highest, highestLines, mostLines, allLines, isLast}
+use Rattle.model.specs.Creations.{creationsFrom, creationsIn}
 use Rattle.model.specs.Filling.{classPut, methodPut, linePut, partOf, whole, reached, atStart, inClass, inMethod, inCode, atEnd, PartHeld, Held, firstLine, thisLine}
 use Rattle.model.specs.Table.{Table, size, Rows}
 use Rattle.model.proofs.Changes.{stated-last, stated-before}
 use Rattle.model.proofs.Closing.{Between, no-class-put, next-held}
-use Rattle.model.proofs.CodeRows.{AtLine, Lined, at-line, lined, lineTable, creations-few}
+use Rattle.model.proofs.CodeRows.{AtLine, Lined, at-line, lined, lineTable}
 use Rattle.model.proofs.Framing.{same-self, classes-kept}
 use Rattle.model.proofs.MethodRows.{no-method-put, method-between}
 use Rattle.model.proofs.Parts.{Known, known-in, held-in}
@@ -36,14 +37,13 @@ quiet s t st after l h = rw (no-class-put (counted st) (counted after) t l) h
 
 -- nothing is told at first
 pub begin-held : (s : Text) (t : Table) → length t ≡ size → Held s t begin (counted begin)
-unfolding begin freshModel counted modelCounted partOf reached whole PartHeld Rows
+unfolding begin freshModel counted modelCounted partOf reached whole PartHeld Rows creationsFrom
 begin-held s t e = record {
   all = e;
   classes = omega arith;
   lines = omega arith;
-  news = omega arith;
   told = tt;
-  creations = tt;
+  creations = refl;
   part = refl;
 }
 
@@ -52,7 +52,7 @@ at-end : (s : Text) (t : Table) (st : State) → Known atEnd s t st → Belongs 
 unfolding counted modelCounted whole PartHeld Belongs
 at-end s t st k =
     let n = st .model .classes in
-    let told = classes-kept s n t t (st .model .total) allLines n 128 512 512 (st .model .done) (same-self t n 128 512 512) (k .lines) (k .lines) (omega (arith, k .part)) (omega (arith, k .classes)) (k .told) in
+    let told = classes-kept s n t t (st .model .total) allLines n 128 512 (st .model .done) (same-self t n 128 512) (k .lines) (k .lines) (omega (arith, k .part)) (omega (arith, k .classes)) (k .told) in
     rw (k .part) told
 
 pub held-belongs : (s : Text) (t : Table) (st : State) → Held s t st (counted st) → st .key ≡ Key.End → Belongs s t (st .model .done)
@@ -63,24 +63,24 @@ module _ (s : Text) (t : Table) (st : State) where
   -- `creol=`, and `classes=`: no class is read yet
   keep-creol : (n : ℕ) → Known atStart s t st → (let after = numbered Key.Creol st n in Held s t after (counted after))
   unfolding numbered withModel counted modelCounted partOf reached whole PartHeld
-  keep-creol n k = held-in s t _ atStart refl (record { all = k .all; classes = k .classes; lines = k .lines; news = k .news; told = k .told; creations = k .creations; part = k .part })
+  keep-creol n k = held-in s t _ atStart refl (record { all = k .all; classes = k .classes; lines = k .lines; told = k .told; creations = k .creations; part = k .part })
 
   keep-classes : (n : ℕ) → Known atStart s t st → 1 ≤ n → n ≤ 16 → (let after = numbered Key.Classes st n in Held s t after (counted after))
   unfolding numbered withModel counted modelCounted partOf reached whole PartHeld Rows
   keep-classes n k l m =
       held-in s t _ inClass refl
-      (record { all = k .all; classes = m; lines = k .lines; news = k .news; told = rw (k .part) tt; creations = k .creations; part = rw (k .part) l })
+      (record { all = k .all; classes = m; lines = k .lines; told = rw (k .part) tt; creations = k .creations; part = rw (k .part) l })
 
   -- a number of a class, and a number of a method
   keep-class : (key : Key) (c : InClass) → partOf key ≡ inClass → Known inClass s t st
       → (let after = withClass st key c in Held s t after (counted after))
   unfolding withClass counted modelCounted reached whole PartHeld
-  keep-class key c e k = held-in s t _ inClass e (record { all = k .all; classes = k .classes; lines = k .lines; news = k .news; told = k .told; creations = k .creations; part = k .part })
+  keep-class key c e k = held-in s t _ inClass e (record { all = k .all; classes = k .classes; lines = k .lines; told = k .told; creations = k .creations; part = k .part })
 
   keep-method : (key : Key) (o : InMethod) → partOf key ≡ inMethod → Known inMethod s t st
       → (let after = withMethod st key o in Held s t after (counted after))
   unfolding withMethod counted modelCounted classCounted reached whole PartHeld
-  keep-method key o e k = held-in s t _ inMethod e (record { all = k .all; classes = k .classes; lines = k .lines; news = k .news; told = k .told; creations = k .creations; part = k .part })
+  keep-method key o e k = held-in s t _ inMethod e (record { all = k .all; classes = k .classes; lines = k .lines; told = k .told; creations = k .creations; part = k .part })
 
   -- `methods=`: none is read yet
   methods-between : (n : ℕ) → Known inClass s t st → n ≤ 8 → Between s t (withClass st Key.Method (methodsBegun st n))
@@ -89,7 +89,6 @@ module _ (s : Text) (t : Table) (st : State) where
     all = k .all;
     classes = k .classes;
     lines = k .lines;
-    news = k .news;
     told = k .told;
     creations = k .creations;
     here = k .part;
@@ -120,9 +119,8 @@ module _ (s : Text) (t : Table) (st : State) where
         all = k .all;
         classes = k .classes;
         lines = a;
-        news = omega (arith, k .news);
         told = told;
-        creations = k .creations;
+        creations = k .creations ∙ ap (creationsIn t) (omega arith);
         part = (k .part .0, k .part .1, k .part .2, methods, l, m, omega arith, omega arith, tt);
       })
 
@@ -172,17 +170,14 @@ module _ (s : Text) (t : Table) (st : State) (at : ℕ) (c : Code) (bs : List Bl
   unfolding lineJoined codeJoined creationsJoined withModel withMethod counted modelCounted classCounted methodCounted partOf reached whole PartHeld limitsOf firstLine thisLine
   keep-line k u b d e h =
       let more = append-length (st .method .done) c in
-      let new = length-append (st .model .creations) (creationsOf at c) in
-      let few = creations-few at c in
       let next : length (st .method .done ++ (c ∷ [])) < st .method .lines = omega (arith, more-to-read st e (b .line)) in
       held-in s u _ inCode refl
       (record {
         all = d .all;
         classes = k .classes;
         lines = k .lines;
-        news = omega (arith, more, new, few, b .news);
         told = d .classes;
-        creations = d .creations;
+        creations = d .creations ∙ ap (creationsIn u) (omega (arith, more));
         part = (k .part .0, k .part .1, k .part .2, d .methods, next, k .part .5, k .part .6, h, d .lines _);
       })
 

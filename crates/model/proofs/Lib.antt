@@ -6,6 +6,7 @@ pub mod Closing
 pub mod CodeFed
 pub mod CodeRows
 pub mod CountsOfNew
+pub mod CreationRows
 pub mod Cutting
 pub mod Ends
 pub mod Framing

@@ -62,7 +62,7 @@ module _ (s : Text) (t : Table) (st : State) (h : Held s t st (counted st)) wher
     held-ready =
         let b = at-line s t st in-code in
         let p = in-code .part in
-        (omega arith, omega arith, omega arith, omega arith, omega arith, omega arith, packed-fits _ (p .7))
+        (omega arith, omega arith, omega arith, omega arith, omega arith, packed-fits _ (p .7))
 
     pub held-classes : 0 < counted st .model .classes
     unfolding counted modelCounted

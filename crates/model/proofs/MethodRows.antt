@@ -1,11 +1,11 @@
 -- The row of a method, put at its last line. Assumes nothing.
-use Prim.Native.Nat.{ℕ, _+_, _*_, _≤_}
+use Prim.Native.Nat.{ℕ, _+_, _*_}
 use mathlib.Core.Bool.{true, false}
 use mathlib.Core.List.{List, [], _∷_, _++_}
-use mathlib.Core.Path.{_≡_, refl, sym, _∙_}
+use mathlib.Core.Path.{_≡_, refl, sym, ap, _∙_}
 use native.Mathlib.Nat.{zero-add}
 use native.Mathlib.Omega.{arith}
-use lib.ListN.{length, length-append}
+use lib.ListN.{length}
 use Rattle.terms.specs.Bytes.{Text}
 use Rattle.code.specs.Blocks.{Block}
 use Rattle.code.specs.Statements.{Code}
@@ -15,11 +15,12 @@ use Rattle.model.specs.declared.Row.{Row}
 use Rattle.model.specs.Automaton.{State, modelCounted, classCounted, methodCounted, counted, withModel, withClass, withMethod, methodJoined, codeJoined, creationsJoined, lineJoined, creationsOf, limitsOf}
 use Rattle.model.specs.Belonging.{MethodTold, ClassTold}
 use Rattle.model.specs.Counts.{isLast}
-use Rattle.model.specs.Filling.{firstLine, methodPut, CreationTold}
+use Rattle.model.specs.Creations.{creationsIn}
+use Rattle.model.specs.Filling.{firstLine, thisLine, methodPut}
 use Rattle.model.specs.Model.{Method}
 use Rattle.model.specs.Table.{Table, put, methodRow, size, Rows}
 use Rattle.model.proofs.Closing.{Between}
-use Rattle.model.proofs.CodeRows.{AtLine, Lined, creations-few}
+use Rattle.model.proofs.CodeRows.{AtLine, Lined}
 use Rattle.model.proofs.Framing.{Same, same-method, lines-kept, methods-kept, classes-kept, news-kept}
 use Rattle.model.proofs.TableRows.{put-length, row-own, append-length, rows-append}
 
@@ -45,9 +46,9 @@ module _ (st : State) (t : Table) where
 
 module _ (s : Text) (t : Table) (st : State) (at : ℕ) (c : Code) (b : AtLine st) (d : Lined s t st at c) (last : length (st .method .done) + 1 ≡ st .method .lines) where
   -- the other rows are as they were
-  rows-stay : Same t (methodTable st t) 16 (8 * length (st .model .done) + length (st .class .done)) 512 512
+  rows-stay : Same t (methodTable st t) 16 (8 * length (st .model .done) + length (st .class .done)) 512
   unfolding methodTable
-  rows-stay = same-method t (wholeRow st) 16 _ 512 512 (length (st .model .done)) (length (st .class .done)) (omega arith) (omega arith) (omega arith)
+  rows-stay = same-method t (wholeRow st) 16 _ 512 (length (st .model .done)) (length (st .class .done)) (omega arith) (omega arith) (omega arith)
 
   lines-all : length (wholeMethod st c .code) ≡ st .method .lines
   unfolding wholeMethod
@@ -64,29 +65,28 @@ module _ (s : Text) (t : Table) (st : State) (at : ℕ) (c : Code) (b : AtLine s
         refl,
         sym lines-all,
         omega (arith, lines-all),
-        lines-kept s (st .model .classes) t (methodTable st t) (st .model .total) (st .model .total) _ _ _ _ (limitsOf st) (firstLine (counted st)) (st .method .done ++ (c ∷ [])) rows-stay
+        lines-kept s (st .model .classes) t (methodTable st t) (st .model .total) (st .model .total) _ _ _ (limitsOf st) (firstLine (counted st)) (st .method .done ++ (c ∷ [])) rows-stay
             (omega (arith, lines-all)) (d .lines (st .model .total)),
       )
 
   -- what is known when the method has joined its class
   classes-told : Rows (ClassTold s (st .model .classes) (methodTable st t) (st .model .total)) 0 (st .model .done)
   classes-told =
-      classes-kept s (st .model .classes) t (methodTable st t) (firstLine (counted st)) (st .model .total) (length (st .model .done)) (8 * length (st .model .done) + length (st .class .done)) 512 512 (st .model .done)
-      (record { class = λ i h. rows-stay .class i (omega arith); method = rows-stay .method; line = rows-stay .line; new = rows-stay .new })
+      classes-kept s (st .model .classes) t (methodTable st t) (firstLine (counted st)) (st .model .total) (length (st .model .done)) (8 * length (st .model .done) + length (st .class .done)) 512 (st .model .done)
+      (record { class = λ i h. rows-stay .class i (omega arith); method = rows-stay .method; line = rows-stay .line })
       (omega arith) (omega arith) (omega arith) (omega arith) (d .classes)
 
   methods-told : Rows (MethodTold s (st .model .classes) (methodTable st t) (st .model .total) (st .class .attrs) (length (st .model .done))) 0 (st .class .done ++ (wholeMethod st c ∷ []))
   methods-told =
       rows-append _ 0 (st .class .done) (wholeMethod st c)
-      (methods-kept s (st .model .classes) t (methodTable st t) (firstLine (counted st)) (st .model .total) _ _ _ _ (st .class .attrs) (length (st .model .done)) (st .class .done) rows-stay
+      (methods-kept s (st .model .classes) t (methodTable st t) (firstLine (counted st)) (st .model .total) _ _ _ (st .class .attrs) (length (st .model .done)) (st .class .done) rows-stay
       (omega arith) (omega arith) (omega arith) (d .methods))
       (rw zero-add method-told)
 
-  news-told : length (st .model .creations ++ creationsOf at c) ≤ st .model .total → Rows (CreationTold (methodTable st t)) 0 (st .model .creations ++ creationsOf at c)
-  news-told h = news-kept t (methodTable st t) _ _ _ _ (st .model .creations ++ creationsOf at c) rows-stay (omega arith) (d .creations)
-
-  news-few : length (st .model .creations ++ creationsOf at c) ≤ st .model .total
-  news-few = omega (arith, length-append (st .model .creations) (creationsOf at c), creations-few at c)
+  news-told : st .model .creations ++ creationsOf at c ≡ creationsIn (methodTable st t) (st .model .total)
+  news-told =
+      let e : thisLine (counted st) + 1 ≡ st .model .total = omega (arith, b .first, b .this) in
+      d .creations ∙ ap (creationsIn t) e ∙ sym (news-kept t (methodTable st t) _ _ _ rows-stay (st .model .total) (b .total))
 
   table-length : length (methodTable st t) ≡ size
   unfolding methodTable
@@ -98,9 +98,8 @@ module _ (s : Text) (t : Table) (st : State) (at : ℕ) (c : Code) (b : AtLine s
     all = table-length;
     classes = b .classes;
     lines = b .total;
-    news = news-few;
     told = classes-told;
-    creations = news-told news-few;
+    creations = news-told;
     here = b .class;
     read = omega (arith, append-length (st .class .done) (wholeMethod st c));
     most = b .methods;

@@ -1,6 +1,7 @@
 -- A proof that computes with the definitions of this crate and of all below it says `unfolding model-open`. Assumes nothing.
 use Rattle.model.specs.Automaton
 use Rattle.model.specs.Counts
+use Rattle.model.specs.Creations
 use Rattle.model.specs.Judge
 use Rattle.model.specs.Keys
 use Rattle.model.specs.Lines
@@ -15,6 +16,6 @@ unfolding code-open Automaton.freshClass Automaton.freshMethod Automaton.freshMo
     Automaton.classJoined Automaton.classClosed Automaton.nextMethod Automaton.methodJoined Automaton.methodClosed Automaton.methodsBegun Automaton.linesCounted Automaton.linesBegun Automaton.numbered Automaton.numberLine Automaton.creationsOf
     Counts.isLast Counts.endsMethod Counts.mayStand Automaton.codeJoined Automaton.creationsJoined Automaton.lineJoined Automaton.stated Automaton.blockLine Automaton.limitsOf Automaton.codeLine Automaton.valueLine
     Automaton.feed Automaton.asFed Judge.givenTo Judge.countsJudged Judge.endJudged Judge.linesJudged Judge.judged Judge.verdictOf Judge.judge
-    Keys.nameOf Keys.asked Lines.grown Lines.lines Lines.beforeFeed Lines.lineEnd Lines.plainBytes Lines.sound Lines.content Model.runs
+    Creations.newNumber Creations.creationTold Creations.creationsFrom Creations.newFits Keys.nameOf Keys.asked Lines.grown Lines.lines Lines.beforeFeed Lines.lineEnd Lines.plainBytes Lines.sound Lines.content Model.runs
     Model.takes Model.methodOf Model.bindsTo Numbers.numberIn Numbers.asNumberLine Table.rowOf Table.put Table.Rows
 model-open = tt

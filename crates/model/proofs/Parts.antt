@@ -6,7 +6,8 @@ use Rattle.terms.specs.Bytes.{Text}
 use Rattle.model.specs.Automaton.{State, modelCounted, counted}
 use Rattle.model.specs.Belonging.{ClassTold}
 use Rattle.model.specs.Counts.{mostClasses, allLines}
-use Rattle.model.specs.Filling.{CreationTold, Part, partOf, whole, reached, PartHeld, Held}
+use Rattle.model.specs.Creations.{creationsIn}
+use Rattle.model.specs.Filling.{Part, partOf, whole, reached, PartHeld, Held}
 use Rattle.model.specs.Table.{Table, size, Rows}
 
 -- `Held`, with the part of the key told
@@ -14,20 +15,19 @@ pub record Known (p : Part) (s : Text) (t : Table) (st : State) : Type 0 where
   pub all : length t ≡ size
   pub classes : st .model .classes ≤ mostClasses
   pub lines : st .model .total ≤ allLines
-  pub news : length (st .model .creations) ≤ reached p (counted st)
   pub told : Rows (ClassTold s (st .model .classes) t (whole p (counted st))) 0 (st .model .done)
-  pub creations : Rows (CreationTold t) 0 (st .model .creations)
+  pub creations : st .model .creations ≡ creationsIn t (reached p (counted st))
   pub part : PartHeld p s t st (counted st)
 
 module _ (s : Text) (t : Table) (st : State) where
   -- by the state's own key
   known-own : Held s t st (counted st) → Known (partOf (st .key)) s t st
   unfolding counted modelCounted
-  known-own h = record { all = h .all; classes = h .classes; lines = h .lines; news = h .news; told = h .told; creations = h .creations; part = h .part }
+  known-own h = record { all = h .all; classes = h .classes; lines = h .lines; told = h .told; creations = h .creations; part = h .part }
 
   held-own : Known (partOf (st .key)) s t st → Held s t st (counted st)
   unfolding counted modelCounted
-  held-own h = record { all = h .all; classes = h .classes; lines = h .lines; news = h .news; told = h .told; creations = h .creations; part = h .part }
+  held-own h = record { all = h .all; classes = h .classes; lines = h .lines; told = h .told; creations = h .creations; part = h .part }
 
   -- by a part that the key's is
   pub known-in : (p : Part) → partOf (st .key) ≡ p → Held s t st (counted st) → Known p s t st

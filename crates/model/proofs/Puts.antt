@@ -1,18 +1,12 @@
 -- The rows of the table by the tests that the code makes. Assumes nothing.
-use Prim.Native.Nat.{ℕ, _≤_, _<_}
+use Prim.Native.Nat.{_≤_, _<_}
 use mathlib.Core.Bool.{true, false}
-use mathlib.Core.List.{List, [], _∷_}
-use mathlib.Core.Option.{Option, none, some}
-use mathlib.Core.Path.{_≡_, refl, ap}
+use mathlib.Core.Path.{_≡_, refl}
 use borrow.Author.Tests.{lt-ltb, le-ltb}
 use Rattle.model.specs.declared.Counts.{Counts}
-use lib.ListN.{length}
-use Rattle.code.specs.Creating.{newOf}
-use Rattle.code.specs.Statements.{Code}
-use Rattle.model.specs.Automaton.{Creation, creationsOf}
 use Rattle.model.specs.Counts.{isLast}
-use Rattle.model.specs.Filling.{firstLine, howMany, creationPut, methodPut, classPut}
-use Rattle.model.specs.Table.{Table, put, classRow, methodRow, creationRow}
+use Rattle.model.specs.Filling.{firstLine, methodPut, classPut}
+use Rattle.model.specs.Table.{Table, put, classRow, methodRow}
 
 -- a class that is whole, and one that is not
 module _ (before after : Counts) (t : Table) where
@@ -37,23 +31,3 @@ module _ (c : Counts) (t : Table) where
   pub method-open : isLast c ≡ false → methodPut c t ≡ t
   unfolding methodPut
   method-open e = rw (e, methodPut) refl
-
--- a line that is a `new`, and one that is none
-module _ (c : Counts) (at : ℕ) (o : Option (ℕ × ℕ)) (t : Table) where
-  pub creation-none : o ≡ none → creationPut c at o t ≡ t
-  unfolding creationPut
-  creation-none e = ap (λ n. creationPut c at n t) e
-
-  pub creation-some : (n : ℕ × ℕ) → o ≡ some n
-      → creationPut c at o t ≡ put t (creationRow (c .model .creations)) (record { 0 = at; 1 = n .0; 2 = n .1; 3 = 0 })
-  unfolding creationPut
-  creation-some n e = ap (λ m. creationPut c at m t) e
-
--- a line has as many creations as `new`s
-pub creations-many : (at : ℕ) (c : Code) → howMany (newOf c) ≡ length (creationsOf at c)
-unfolding creationsOf
-creations-many at c = go (newOf c)
-  where
-    go : (o : Option (ℕ × ℕ)) → howMany o ≡ length {A = Creation} (elim o [ none ↦ [] | some n ↦ record { at = at; class = n .0; count = n .1 } ∷ [] ])
-    go none = unfold howMany in refl
-    go (some n) = unfold howMany in refl

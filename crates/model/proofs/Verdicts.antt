@@ -17,7 +17,8 @@ use Rattle.model.specs.declared.Key.{Key}
 use Rattle.model.specs.declared.Key.the-variants as Key
 use Rattle.model.specs.Automaton.{Creation, State, modelCounted, counted, begin, feed, Fed, refused, fed, asFed}
 use Rattle.model.specs.Belonging.{ClassTold, Belongs}
-use Rattle.model.specs.Filling.{CreationTold, atEnd, partOf, whole, reached, PartHeld, Held, HeldAfter}
+use Rattle.model.specs.Creations.{creationsIn}
+use Rattle.model.specs.Filling.{atEnd, partOf, whole, reached, PartHeld, Held, HeldAfter}
 use Rattle.model.specs.Judge.{Judged, refusal, model, givenTo, countsJudged, endJudged, linesJudged, judged, verdictOf, judge}
 use Rattle.model.specs.Keys.{asked}
 use Rattle.model.specs.Lines.{Line, unended, sound, lines, longestText}
@@ -137,9 +138,13 @@ module _ (s : Text) (t : Table) (st : State) (h : Held s t st (counted st)) wher
     unfolding PartHeld counted modelCounted
     end-classes = at-end .part
 
-    pub end-news : counted st .model .creations ≤ 512
-    unfolding reached counted modelCounted
-    end-news = omega (arith, at-end .news, at-end .lines)
+    pub end-lines : counted st .model .total ≤ 512
+    unfolding counted modelCounted
+    end-lines = at-end .lines
+
+    pub end-news : st .model .creations ≡ creationsIn t (counted st .model .total)
+    unfolding reached
+    end-news = at-end .creations
 
     pub end-told : Rows (ClassTold s (st .model .classes) t (whole atEnd (counted st))) 0 (st .model .done)
     end-told = at-end .told

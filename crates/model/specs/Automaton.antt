@@ -89,7 +89,7 @@ withMethod st k m = record { key = k; model = st .model; class = st .class; meth
 
 -- a state in numbers, as the code holds it
 unfoldable pub modelCounted : InModel → ModelCounts
-modelCounted m = record { classes = m .classes; total = m .total; creations = length (m .creations); read = length (m .done) }
+modelCounted m = record { classes = m .classes; total = m .total; read = length (m .done) }
 
 unfoldable pub classCounted : InClass → ClassCounts
 classCounted c = record { attrs = c .attrs; given = c .given; run = c .run; methods = c .methods; read = length (c .done) }

@@ -2,7 +2,7 @@
 use Prim.Native.Nat.{ℕ, _+_, _-_, _≤_, _<_}
 use mathlib.Core.Bool.{true, false}
 use mathlib.Core.List.{[]}
-use mathlib.Core.Option.{Option, none, some}
+use mathlib.Core.Option.{Option}
 use mathlib.Core.Path.{_≡_}
 use lib.Dec.{ltb}
 use lib.ListN.{length}
@@ -13,11 +13,12 @@ use Rattle.model.specs.declared.Fed.{Fed}
 use Rattle.model.specs.declared.Fed.the-variants as Fed
 use Rattle.model.specs.declared.Key.{Key}
 use Rattle.model.specs.declared.Key.the-variants as Key
-use Rattle.model.specs.Automaton.{Creation, State, limitsOf, counted, refused, fed, asFed}
+use Rattle.model.specs.Automaton.{State, limitsOf, counted, refused, fed, asFed}
 use Rattle.model.specs.Automaton as Automaton
 use Rattle.model.specs.Belonging.{CodeTold, MethodTold, ClassTold}
 use Rattle.model.specs.Counts.{mostClasses, mostMethods, mostLines, allLines, deepest, isLast}
-use Rattle.model.specs.Table.{Table, rowOf, put, classRow, methodRow, codeRow, creationRow, size, Rows}
+use Rattle.model.specs.Creations.{newNumber, creationsIn}
+use Rattle.model.specs.Table.{Table, put, classRow, methodRow, codeRow, size, Rows}
 
 -- the number of the code line being read, among those of all methods: the method's first, and how many of its lines were read
 unfoldable pub firstLine : Counts → ℕ
@@ -34,16 +35,11 @@ limitsCounted c = record { attrs = c .class .attrs; locals = c .method .locals }
 abbrev pub Ready : Counts → Type 0
 Ready c =
     (c .model .read < mostClasses) × (c .class .read < mostMethods) × (c .method .read < mostLines) × (c .method .lines ≤ c .model .total)
-    × (thisLine c < allLines) × (c .model .creations < allLines) × (c .method .blocks < 65536)
+    × (thisLine c < allLines) × (c .method .blocks < 65536)
 
--- the row of the code line being read: the place and the length of its value
-unfoldable pub codePut : Counts → ℕ → ℕ → Table → Table
-codePut c place long t = put t (codeRow (thisLine c)) (record { 0 = place; 1 = long; 2 = 0; 3 = 0 })
-
--- the row of its `new`, if it is one: the line of the text, the class, and how many arguments there are
-unfoldable pub creationPut : Counts → ℕ → Option (ℕ × ℕ) → Table → Table
-creationPut c at none t = t
-creationPut c at (some n) t = put t (creationRow (c .model .creations)) (record { 0 = at; 1 = n .0; 2 = n .1; 3 = 0 })
+-- the row of the code line being read: the place and the length of its value, its line in the text, and its `new` as one number
+unfoldable pub codePut : Counts → ℕ → ℕ → ℕ → ℕ → Table → Table
+codePut c at place long new t = put t (codeRow (thisLine c)) (record { 0 = place; 1 = long; 2 = at; 3 = new })
 
 -- the row of the method being read, at its last line
 unfoldable pub methodPut : Counts → Table → Table
@@ -59,25 +55,14 @@ classPut before after t = elim (ltb (before .model .read) (after .model .read)) 
   | false ↦ t
 ]
 
--- how many `new`s a line has
-unfoldable pub howMany : Option (ℕ × ℕ) → ℕ
-howMany none = 0
-howMany (some n) = 1
-
 -- all rows of a code line
 unfoldable pub linePut : Counts → Counts → ℕ → ℕ → ℕ → Option (ℕ × ℕ) → Table → Table
-linePut before after at place long new t = classPut before after (methodPut before (creationPut before at new (codePut before place long t)))
+linePut before after at place long new t = classPut before after (methodPut before (codePut before at place long (newNumber new) t))
 
 -- a line that is refused fills nothing
 unfoldable pub filledBy : Fed → (Counts → Table → Table) → Table → Table
 filledBy (Fed.Refused n) fill t = t
 filledBy (Fed.Next after) fill t = fill after t
-
--- a creation, by its row
-unfoldable pub CreationTold : Table → ℕ → Creation → Type 0
-CreationTold t i n =
-    let r = rowOf t (creationRow i) in
-    (r .0 ≡ n .at) × (r .1 ≡ n .class) × (r .2 ≡ n .count)
 
 -- where in the text a key stands
 pub data Part : Type 0 where
@@ -132,9 +117,8 @@ pub record Held (s : Text) (t : Table) (st : State) (c : Counts) : Type 0 where
   pub all : length t ≡ size
   pub classes : c .model .classes ≤ mostClasses
   pub lines : c .model .total ≤ allLines
-  pub news : c .model .creations ≤ reached (partOf (c .key)) c
   pub told : Rows (ClassTold s (c .model .classes) t (whole (partOf (c .key)) c)) 0 (st .model .done)
-  pub creations : Rows (CreationTold t) 0 (st .model .creations)
+  pub creations : st .model .creations ≡ creationsIn t (reached (partOf (c .key)) c)
   pub part : PartHeld (partOf (c .key)) s t st c
 
 -- counts and a table that tell a state

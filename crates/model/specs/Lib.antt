@@ -2,6 +2,7 @@
 pub mod Automaton
 pub mod Belonging
 pub mod Counts
+pub mod Creations
 pub mod Filling
 pub mod Judge
 pub mod Keys

@@ -22,16 +22,12 @@ methodRow k j = 16 + 8 * k + j
 abbrev pub codeRow : ℕ → ℕ
 codeRow i = 144 + i
 
--- then a row for each creation, of which a code line has at most one
-abbrev pub creationRow : ℕ → ℕ
-creationRow i = 656 + i
-
 abbrev pub rows : ℕ
-rows = 1168
+rows = 656
 
 -- the numbers of all rows
 abbrev pub size : ℕ
-size = 4672
+size = 2624
 
 -- the four numbers of a row; a number that is not there reads as 0
 unfoldable pub rowOf : Table → ℕ → Row

@@ -9,7 +9,6 @@ use code::blocks;
 ghost use mathlib.Core.Path.{_≡_};
 ghost use mathlib.Core.List.{List};
 ghost use Prim.Native.Nat.{ℕ, _+_, _<_, _^_};
-ghost use lib.ListN.{length};
 ghost use Rattle.code.specs.Blocks.{Block};
 ghost use Rattle.code.specs.OpenBlocks.{packed};
 ghost use Rattle.code.specs.Statements.{Code};
@@ -174,20 +173,17 @@ pub fn is_last(counts: Counts) -> bool
     counts.method.read + 1 == counts.method.lines
 }
 
-// What a code line makes of the counts, with the `new`s that it has and the blocks that are open after it.
-pub fn stated(counts: Counts, creations: u32, blocks: u32) -> Counts
+// What a code line makes of the counts, with the blocks that are open after it.
+pub fn stated(counts: Counts, blocks: u32) -> Counts
     requires { ⌜ counts .model .read < 16 ⌝ }
     requires { ⌜ counts .class .read < 8 ⌝ }
     requires { ⌜ counts .method .read < 64 ⌝ }
-    requires { ⌜ counts .model .creations + creations < 2 ^ 32 ⌝ }
-    ensures { λ r. ⌜ ((at : ℕ) (c : Code) (bs : List Block) → creations ≡ length (Automaton.creationsOf at c) → blocks ≡ packed bs → Automaton.Follows (λ st. Automaton.stated at st c bs) counts r) ⌝ }
+    ensures { λ r. ⌜ ((at : ℕ) (c : Code) (bs : List Block) → blocks ≡ packed bs → Automaton.Follows (λ st. Automaton.stated at st c bs) counts r) ⌝ }
 {
-    let mut model = counts.model;
     let mut method = counts.method;
-    model.creations += creations;
     method.read += 1;
     method.blocks = blocks;
-    let after = with_method(with_model(counts, Key::Code, model), Key::Code, method);
+    let after = with_method(counts, Key::Code, method);
     if is_last(counts) {
         return method_closed(after);
     }

@@ -20,11 +20,11 @@ use whole::refusals;
 ghost use mathlib.Core.List.{List};
 ghost use mathlib.Core.Option.{Option, some};
 ghost use mathlib.Core.Path.{_≡_};
-ghost use Prim.Native.Nat.{ℕ, _-_, _≤_, _<_, _^_};
+ghost use Prim.Native.Nat.{ℕ, _-_, _≤_, _<_};
 ghost use lib.ListN.{length, take, drop};
 ghost use Rattle.code.specs.declared.NewFound.the-variants as New;
 ghost use Rattle.code.specs.Blocks.{Block, shapeOf};
-ghost use Rattle.code.specs.Creating.{newOf, newSaid, asNew};
+ghost use Rattle.code.specs.Creating.{newSaid, asNew};
 ghost use Rattle.code.specs.OpenBlocks.{packed, shapeSaid};
 ghost use Rattle.code.specs.Statements.{Code};
 ghost use Rattle.model.specs.declared.Key.the-variants as Key;
@@ -36,13 +36,12 @@ ghost use Rattle.model.specs.Table as Table;
 fn line_stated(table: &mut [u32], counts: Counts, new: NewFound, blocks: u32, at: CodeAt) -> Counts
     requires { ⌜ length (now table) ≡ Table.size ⌝ }
     requires { ⌜ Filling.Ready counts ⌝ }
-    requires { ⌜ ((k n : ℕ) → new ≡ New.Is k n → n < 2 ^ 32) ⌝ }
-    ensures { λ r. ⌜ ((c : Code) (bs : List Block) → new ≡ asNew (newOf c) → blocks ≡ packed bs → Automaton.Follows (λ st. Automaton.stated (at .line) st c bs) counts r) ⌝ }
+    requires { ⌜ ((k n : ℕ) → new ≡ New.Is k n → (k < 16) × (n < 65536)) ⌝ }
+    ensures { λ r. ⌜ ((c : Code) (bs : List Block) → blocks ≡ packed bs → Automaton.Follows (λ st. Automaton.stated (at .line) st c bs) counts r) ⌝ }
     ensures { λ r. ⌜ ((o : Option (ℕ × ℕ)) → new ≡ asNew o → now (table .exit) ≡ Filling.linePut counts r (at .line) (at .place) (at .long) o (now (table .entry))) ⌝ }
 {
-    let after = automaton::stated(counts, filling::how_many(new), blocks);
-    filling::put_code(table, counts, at.place, at.long);
-    filling::put_creation(table, counts, at.line, new);
+    let after = automaton::stated(counts, blocks);
+    filling::put_code(table, counts, at, filling::new_number(new));
     filling::put_method(table, counts);
     filling::put_class(table, counts, after);
     after
@@ -58,8 +57,8 @@ fn block_line(
 ) -> Fed
     requires { ⌜ length (now table) ≡ Table.size ⌝ }
     requires { ⌜ Filling.Ready counts ⌝ }
-    requires { ⌜ ((k n : ℕ) → newSaid statement arguments ≡ some (k, n) → n < 2 ^ 32) ⌝ }
-    ensures { λ r. ⌜ ((st : Automaton.State) (c : Code) → counts ≡ Automaton.counted st → shapeSaid statement ≡ shapeOf c → newSaid statement arguments ≡ newOf c → r ≡ Automaton.asFed (Automaton.blockLine (at .line) st c)) ⌝ }
+    requires { ⌜ ((k n : ℕ) → newSaid statement arguments ≡ some (k, n) → (k < 16) × (n < 65536)) ⌝ }
+    ensures { λ r. ⌜ ((st : Automaton.State) (c : Code) → counts ≡ Automaton.counted st → shapeSaid statement ≡ shapeOf c → r ≡ Automaton.asFed (Automaton.blockLine (at .line) st c)) ⌝ }
     ensures { λ r. ⌜ now (table .exit) ≡ Filling.filledBy r (λ after. Filling.linePut counts after (at .line) (at .place) (at .long) (newSaid statement arguments)) (now (table .entry)) ⌝ }
 {
     let shape = blocks::shape_of(statement);

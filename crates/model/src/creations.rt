@@ -1,18 +1,14 @@
 // "a wrong count of its arguments is 5 at its line, judged only in a text that passes otherwise"
-use crate::Row;
 use crate::Verdict;
 use crate::filling;
 use crate::table;
 use whole::refusals;
 ghost use mathlib.Core.Path.{_≡_};
-ghost use mathlib.Core.List.{List};
 ghost use Prim.Native.Nat.{ℕ, _≤_};
-ghost use lib.Dec.{eqb};
 ghost use lib.ListN.{length};
 ghost use Rattle.terms.specs.Bytes.{Text};
-ghost use Rattle.model.specs.Automaton.{Creation};
 ghost use Rattle.model.specs.Belonging.{ClassTold};
-ghost use Rattle.model.specs.Filling.{CreationTold};
+ghost use Rattle.model.specs.Creations as Creations;
 ghost use Rattle.model.specs.Judge as Judge;
 ghost use Rattle.model.specs.Model.{Model};
 ghost use Rattle.model.specs.Table.{Rows};
@@ -31,30 +27,34 @@ fn given_to(table: &[u32], classes: u32, class: u32) -> u32
     0
 }
 
-// A `new`, by its row, has as many arguments as its class is to be given.
-fn fits(table: &[u32], classes: u32, new: Row) -> bool
+// A `new` as one number has as many arguments as its class is to be given; a line that is none fits.
+fn fits(table: &[u32], classes: u32, new: u32) -> bool
     requires { ⌜ length (now table) ≡ Table.size ⌝ }
     requires { ⌜ classes ≤ 16 ⌝ }
-    ensures { λ r. ⌜ ((s : Text) (n filled : ℕ) (m : Model) → Rows (ClassTold s n (now (table .entry)) filled) 0 m → length m ≡ classes → r ≡ eqb (new .2) (Judge.givenTo m (new .1))) ⌝ }
+    ensures { λ r. ⌜ ((s : Text) (n filled : ℕ) (m : Model) → Rows (ClassTold s n (now (table .entry)) filled) 0 m → length m ≡ classes → r ≡ Creations.newFits m new) ⌝ }
 {
-    let given = given_to(table, classes, new.1);
-    new.2 == given
+    if new == 0 {
+        return true;
+    }
+    let told = new - 1;
+    let given = given_to(table, classes, told % filling::CLASSES);
+    told / filling::CLASSES == given
 }
 
 // Every `new` of a text that passes otherwise, in the order of its lines: the first that does not fit is refused.
-pub fn counts_judged(table: &[u32], classes: u32, creations: u32) -> Verdict
+pub fn counts_judged(table: &[u32], classes: u32, total: u32) -> Verdict
     requires { ⌜ length (now table) ≡ Table.size ⌝ }
     requires { ⌜ classes ≤ 16 ⌝ }
-    requires { ⌜ creations ≤ 512 ⌝ }
-    ensures { λ r. ⌜ ((s : Text) (n filled : ℕ) (m : Model) (cs : List Creation) → Rows (ClassTold s n (now (table .entry)) filled) 0 m → length m ≡ classes → Rows (CreationTold (now (table .entry))) 0 cs → length cs ≡ creations → r ≡ Judge.verdictOf (Judge.countsJudged m cs)) ⌝ }
+    requires { ⌜ total ≤ 512 ⌝ }
+    ensures { λ r. ⌜ ((s : Text) (n filled : ℕ) (m : Model) → Rows (ClassTold s n (now (table .entry)) filled) 0 m → length m ≡ classes → r ≡ Judge.verdictOf (Judge.countsJudged m (Creations.creationsIn (now (table .entry)) total))) ⌝ }
 {
     let mut i = 0;
-    while i < creations {
-        let new = table::row(table, filling::FIRST_CREATION + i as usize);
-        if !fits(table, classes, new) {
+    while i < total {
+        let line = table::row(table, filling::FIRST_CODE + i as usize);
+        if !fits(table, classes, line.3) {
             return Verdict {
                 number: refusals::WRONG_CODE,
-                line: new.0,
+                line: line.2,
             };
         }
         i += 1;

@@ -37,7 +37,6 @@ fn begin() -> Counts
         model: ModelCounts {
             classes: 0,
             total: 0,
-            creations: 0,
             read: 0,
         },
         class: ClassCounts {
@@ -73,7 +72,7 @@ fn ended(table: &[u32], counts: Counts, line: u32) -> Verdict
             line,
         },
         Asked::Nothing => {
-            creations::counts_judged(table, counts.model.classes, counts.model.creations)
+            creations::counts_judged(table, counts.model.classes, counts.model.total)
         }
     }
 }

@@ -42,11 +42,10 @@ pub enum Asked {
     Nothing,
 }
 
-// What was counted of the model: its classes, all `lines=` together, the `new` lines, and the classes that are whole.
+// What was counted of the model: its classes, all `lines=` together, and the classes that are whole.
 pub struct ModelCounts {
     pub classes: u32,
     pub total: u32,
-    pub creations: u32,
     pub read: u32,
 }
 

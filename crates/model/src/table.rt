@@ -6,7 +6,7 @@ ghost use lib.ListN.{length};
 ghost use Rattle.model.specs.Table as Table;
 
 // How many numbers the rows have together.
-pub const SIZE: usize = 4672;
+pub const SIZE: usize = 2624;
 
 // The four numbers of a row.
 pub fn row(table: &[u32], r: usize) -> Row

@@ -2,29 +2,21 @@
 use borrow.Author.Needs.{needs}
 use mathlib.Core.Path.{_≡_, sym, ap, _∙_}
 use native.Mathlib.Omega.{arith}
-use Rattle.model.proofs.Changes.{creationsMore, lineMore, line-joined, stated-last, stated-before}
+use Rattle.model.proofs.Changes.{lineMore, line-joined, stated-last, stated-before}
 use Rattle.model.specs.Automaton.{counted}
-use Rattle.model.specs.Counts.{ofModel, ofMethod}
+use Rattle.model.specs.Counts.{ofMethod}
 use Rattle.model.specs.declared.Key.the-variants as Key
 use Rattle.model.proofs.automaton.stated.Statement.{statement}
 use Rattle.model.proofs.automaton.stated.Tie as tie
 
 -- the counts with the line in its method
 after : (c : tie.After-with-method)
-    → (let a = c .before .before .before .before .before .before .args in
-    c .with-method .result ≡ ofMethod (ofModel (a .counts) Key.Code (creationsMore (a .counts .model) (a .creations))) Key.Code (lineMore (a .counts .method) (a .blocks)))
-after c =
-    let a = c .before .before .before .before .before .before .args in
-    c .with-method .ensures ∙ ap (λ k. ofMethod k Key.Code (lineMore (a .counts .method) (a .blocks))) (c .before .with-model .ensures)
-
-add-model : tie.Need-add-model
-add-model c = search needs
+    → (let a = c .before .before .before .args in
+    c .with-method .result ≡ ofMethod (a .counts) Key.Code (lineMore (a .counts .method) (a .blocks)))
+after c = c .with-method .ensures
 
 add-method : tie.Need-add-method
 add-method c = search needs
-
-with-model-requires : tie.Need-with-model-requires
-with-model-requires c κs = search needs
 
 with-method-requires : tie.Need-with-method-requires
 with-method-requires c κs = search needs
@@ -36,25 +28,23 @@ method-closed-requires : tie.Need-method-closed-requires
 method-closed-requires c κs = rw (after (c .before .before)) (omega arith, omega arith)
 
 returns : tie.Need-returns
-returns c = λ at code bs n b st e.
+returns c = λ at code bs b st e.
     let l = c .before .before .before in
-    c .method-closed .ensures _ (after l ∙ line-joined _ st e at code bs _ _ n b)
+    c .method-closed .ensures _ (after l ∙ line-joined _ st e at code bs _ b)
     ∙ ap counted (stated-last _ st e at code bs (sym (c .before .before .is-last .ensures) ∙ c .before .if1 .taken))
 
 returns-2 : tie.Need-returns-2
-returns-2 c = λ at code bs n b st e.
+returns-2 c = λ at code bs b st e.
     let l = c .before .before in
     after l
-    ∙ line-joined _ st e at code bs _ _ n b
+    ∙ line-joined _ st e at code bs _ b
     ∙ ap counted (stated-before _ st e at code bs (sym (c .before .is-last .ensures) ∙ c .if1 .left))
 
 pub stated-spec : {M : Type 1} → statement M
 stated-spec =
     tie.close
     (tie.spec
-    add-model
     add-method
-    with-model-requires
     with-method-requires
     is-last-requires
     method-closed-requires

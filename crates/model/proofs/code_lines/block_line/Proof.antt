@@ -1,7 +1,6 @@
 -- `model::code_lines::block_line` meets its contract. Assumes nothing.
 use Rattle.code.proofs.Told.{is-told}
 use Rattle.code.specs.Blocks.{Block, shapeOf, through}
-use Rattle.code.specs.Creating.{asNew}
 use Rattle.code.specs.OpenBlocks.{packed, shapeSaid}
 use Rattle.code.specs.Statements.{Code}
 use Rattle.model.proofs.BlockFed.{open-same, block-unmatched, block-open, block-refused, block-fed}
@@ -55,9 +54,9 @@ unfolding asFed filledBy
 returns c =
     let l = c .before .before in
     let new = l .before .before .new-of .ensures in (
-      λ st code e w n.
+      λ st code e w.
           let o = opened (l .before .before .before .before .before .before) st code e w in
-          ap Fed.Next (l .line-stated .ensures .0 code (o .0) (new ∙ ap asNew n) (o .2) st e)
+          ap Fed.Next (l .line-stated .ensures .0 code (o .0) (o .2) st e)
           ∙ sym (ap asFed (block-fed _ st e code _ (shape-of (l .before .before .before .before .before .before) ∙ w) _ (o .0) (o .1) (sym (l .before .before .before .before .may-stand .ensures (o .0) (o .2)) ∙ l .before .before .before .if1 .taken))),
       l .line-stated .ensures .1 _ new,
     )
@@ -65,7 +64,7 @@ returns c =
 returns-2 : tie.Need-returns-2
 unfolding asFed filledBy
 returns-2 c = (
-  λ st code e w n.
+  λ st code e w.
       sym (ap asFed (block-unmatched _ st e code _ (c .before .before .before .shape-of .ensures ∙ w) _ (sym (c .enum-told .given .1) ∙ c .before .before .through .ensures _ (open-same _ st e)))),
   refl,
 )
@@ -74,7 +73,7 @@ returns-3 : tie.Need-returns-3
 unfolding asFed filledBy
 returns-3 c =
     let l = c .before .before .before in (
-      λ st code e w n.
+      λ st code e w.
           let o = opened l st code e w in
           sym (ap asFed (block-refused _ st e code _ (shape-of l ∙ w) _ (o .0) (o .1) (sym (c .before .may-stand .ensures (o .0) (o .2)) ∙ c .if1 .left))),
       refl,

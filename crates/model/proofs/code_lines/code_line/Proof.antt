@@ -51,7 +51,7 @@ block-line-requires c κs =
       search needs,
       (
         subst Ready (sym (p .1 .0)) (held-ready _ _ (p .0) (p .1 .1) (p .2)),
-        new-fits _ _ _ (p .0) (p .1 .0) (c .before .before .before .before .before .around .ensures) _ _ (c .before .before .before .before .statement .ensures) _ (c .before .before .said .given .1) (omega (arith, length-take (a .end - a .place) (drop (a .place) (now (a .text))), length-drop (a .place) (now (a .text)))),
+        new-fits _ _ _ (p .0) (p .1 .0) (c .before .before .before .before .before .around .ensures) _ _ (c .before .before .before .before .statement .ensures) _ (c .before .before .said .given .1) (omega (arith, length-take (a .end - a .place) (drop (a .place) (now (a .text))), length-drop (a .place) (now (a .text)))) (held-classes _ _ (p .0) (p .1 .1) (p .2)) (p .1 .1 .classes),
       ),
     )
 
@@ -66,7 +66,7 @@ returns-2 c = λ st told key.
     let l = c .before .before in
     let a = c .before .before .before .before .before .before .before .before .before .before .before .before .before .args in
     let w : a .place + (a .end - a .place) ≤ length (now (a .text)) = omega (arith, c .before .before .before .before .before .before .before .before .before .before .before .before .before .pre .0) in
-    code-tells _ _ _ st (told .0) (c .before .before .before .before .before .before .before .before .around .ensures) (now (a .text)) (a .place) (a .end - a .place) w _ (c .before .before .before .before .before .before .before .statement .ensures) _ _ (told .1) key _ (c .before .before .before .before .before .said .given .1) _ _ (λ code w n. l .block-line .ensures .0 st code (told .0) w n) (l .block-line .ensures .1)
+    code-tells _ _ _ st (told .0) (c .before .before .before .before .before .before .before .before .around .ensures) (now (a .text)) (a .place) (a .end - a .place) w _ (c .before .before .before .before .before .before .before .statement .ensures) _ _ (told .1) key _ (c .before .before .before .before .before .said .given .1) _ _ (λ code w. l .block-line .ensures .0 st code (told .0) w) (l .block-line .ensures .1)
 
 pub code-line-spec : {M : Type 1} → statement M
 code-line-spec =

@@ -1,24 +1,19 @@
 -- `model::code_lines::line_stated` meets its contract. Assumes nothing.
-use Rattle.code.specs.Creating.{newOf}
-use Rattle.model.proofs.Puts.{creations-many}
-use Rattle.model.specs.Filling.{linePut, classPut, methodPut, creationPut}
+use Rattle.model.specs.Filling.{linePut, classPut, methodPut, codePut}
 use borrow.Author.Needs.{needs}
-use mathlib.Core.Path.{_≡_, ap, _∙_}
-use native.Mathlib.Omega.{arith}
+use denote.Ref.{now}
+use mathlib.Core.Path.{ap, _∙_}
 use Rattle.model.proofs.code_lines.line_stated.Statement.{statement}
 use Rattle.model.proofs.code_lines.line_stated.Tie as tie
 
-how-many-requires : tie.Need-how-many-requires
-how-many-requires c κs = search needs
-
 stated-requires : tie.Need-stated-requires
-stated-requires c κs = let p = c .before .before .pre .1 .0 in (p .0, (p .1, (p .2, omega (arith, c .how-many .ensures .1))))
+stated-requires c κs = search needs
+
+new-number-requires : tie.Need-new-number-requires
+new-number-requires c κs = search needs
 
 put-code-requires : tie.Need-put-code-requires
 put-code-requires c κs = search needs
-
-put-creation-requires : tie.Need-put-creation-requires
-put-creation-requires c κs = search needs
 
 put-method-requires : tie.Need-put-method-requires
 put-method-requires c κs = search needs
@@ -32,21 +27,28 @@ same-length c = search needs
 returns : tie.Need-returns
 unfolding linePut
 returns c =
-    let a = c .before .before .before .before .before .before .before .before .before .before .before .before .before .before .before .before .before .before .before .args in (
-      λ code bs n b st e. c .before .before .before .before .before .before .before .before .before .before .before .before .before .before .before .before .stated .ensures (a .at .line) code bs (c .before .before .before .before .before .before .before .before .before .before .before .before .before .before .before .before .before .how-many .ensures .0 (newOf code) n ∙ creations-many (a .at .line) code) b st e,
+    let class = c .before .before in
+    let method = class .before .before .before .before in
+    let code = method .before .before .before .before in
+    let number = code .before in
+    let state = number .before .before in
+    let a = state .before .before .args in (
+      λ line bs b st e. state .stated .ensures (a .at .line) line bs b st e,
       λ o n.
-          c .before .before .put-class .ensures
-          ∙ ap (classPut (a .counts) (c .before .before .before .before .before .before .before .before .before .before .before .before .before .before .before .before .stated .result)) (c .before .before .before .before .before .before .put-method .ensures ∙ ap (methodPut (a .counts)) (c .before .before .before .before .before .before .before .before .before .before .put-creation .ensures o n ∙ ap (creationPut (a .counts) (a .at .line) o) (c .before .before .before .before .before .before .before .before .before .before .before .before .before .before .put-code .ensures))),
+          class .put-class .ensures
+          ∙ ap (λ t. classPut (a .counts) (state .stated .result) t)
+          (method .put-method .ensures
+          ∙ ap (methodPut (a .counts))
+          (code .put-code .ensures ∙ ap (λ i. codePut (a .counts) (a .at .line) (a .at .place) (a .at .long) i (now (a .table))) (number .new-number .ensures o n))),
     )
 
 pub line-stated-spec : {M : Type 1} → statement M
 line-stated-spec =
     tie.close
     (tie.spec
-    how-many-requires
     stated-requires
+    new-number-requires
     put-code-requires
-    put-creation-requires
     put-method-requires
     put-class-requires
     same-length

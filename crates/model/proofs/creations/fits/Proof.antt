@@ -1,15 +1,23 @@
 -- `model::creations::fits` meets its contract. Assumes nothing.
 use borrow.Author.Needs.{needs}
-use mathlib.Core.Path.{ap}
 use lib.Dec.{eqb}
+use mathlib.Core.Path.{sym, ap, _∙_}
+use native.Mathlib.Omega.{arith}
+use Rattle.model.proofs.CountsOfNew.{fits-none, fits-some}
 use Rattle.model.proofs.creations.fits.Statement.{statement}
 use Rattle.model.proofs.creations.fits.Tie as tie
+
+returns : tie.Need-returns
+returns c s n filled m told l = sym (fits-none m _ (c .if1 .taken))
+
+sub-told : tie.Need-sub-told
+sub-told c = search needs
 
 given-to-requires : tie.Need-given-to-requires
 given-to-requires c κs = search needs
 
-returns : tie.Need-returns
-returns c s n filled m told l = ap (eqb (c .before .before .before .args .new .2)) (c .before .given-to .ensures s n filled m told l)
+returns-2 : tie.Need-returns-2
+returns-2 c s n filled m told l = ap (eqb _) (c .given-to .ensures s n filled m told l) ∙ sym (fits-some m _ (omega arith))
 
 pub fits-spec : {M : Type 1} → statement M
-fits-spec = tie.close (tie.spec given-to-requires returns)
+fits-spec = tie.close (tie.spec returns sub-told given-to-requires returns-2)

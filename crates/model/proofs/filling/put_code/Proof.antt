@@ -9,8 +9,6 @@ use native.Mathlib.Omega.{arith}
 use Rattle.model.proofs.filling.put_code.Statement.{statement}
 use Rattle.model.proofs.filling.put_code.Tie as tie
 
--- `model::filling::put_code` meets its contract. Assumes nothing.
-
 first-line-requires : tie.Need-first-line-requires
 first-line-requires c κs = search needs
 
@@ -38,7 +36,7 @@ unfolding codePut thisLine
 returns c =
     let a = c .before .before .before .before .before .before .before .args in
     c .before .before .put .ensures
-    ∙ ap (λ first. put (now (a .table)) (codeRow (first + a .counts .method .read)) (record { 0 = a .place; 1 = a .long; 2 = 0; 3 = 0 })) (c .before .before .before .before .before .first-line .ensures)
+    ∙ ap (λ first. put (now (a .table)) (codeRow (first + a .counts .method .read)) (record { 0 = a .at .place; 1 = a .at .long; 2 = a .at .line; 3 = a .new })) (c .before .before .before .before .before .first-line .ensures)
 
 pub put-code-spec : {M : Type 1} → statement M
 put-code-spec =

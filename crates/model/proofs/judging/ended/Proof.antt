@@ -2,12 +2,14 @@
 use Prim.Native.Nat.{_≤_}
 use Rattle.model.proofs.CountsOfNew.{verdict-refusal}
 use Rattle.model.proofs.LineTells.{asked-same}
-use Rattle.model.proofs.Verdicts.{end-number, end-code, end-whole, end-classes, end-news, end-told}
+use Rattle.model.proofs.Verdicts.{end-number, end-code, end-whole, end-classes, end-lines, end-news, end-told}
 use Rattle.model.specs.Automaton.{State, counted, modelCounted}
-use Rattle.model.specs.Judge.{verdictOf}
+use Rattle.model.specs.Creations.{creationsIn}
+use Rattle.model.specs.Judge.{countsJudged, verdictOf}
 use Rattle.model.specs.Keys.{asked}
 use Rattle.model.specs.declared.Asked.the-variants as Asked
 use borrow.Author.Needs.{needs}
+use denote.Ref.{now}
 use mathlib.Core.Path.{_≡_, sym, ap, subst, _∙_}
 use Rattle.model.proofs.judging.ended.Statement.{statement}
 use Rattle.model.proofs.judging.ended.Tie as tie
@@ -35,7 +37,7 @@ counts-judged-requires c κs =
       t .1 .all,
       (
         subst (λ k. k .model .classes ≤ 16) (sym (t .0)) (t .1 .classes),
-        subst (λ k. k .model .creations ≤ 512) (sym (t .0)) (end-news _ _ (p .1) (t .1) (nothing c (p .1) (t .0))),
+        subst (λ k. k .model .total ≤ 512) (sym (t .0)) (end-lines _ _ (p .1) (t .1) (nothing c (p .1) (t .0))),
       ),
     )
 
@@ -54,7 +56,10 @@ unfolding counted modelCounted
 returns-3 c = λ s st t.
     let n = nothing (c .before) st (t .0) in
     let classes = end-classes s _ st (t .1) n ∙ sym (ap (λ k. k .model .classes) (t .0)) in
-    c .counts-judged .ensures s _ _ _ _ (end-told s _ st (t .1) n) classes (t .1 .creations) (sym (ap (λ k. k .model .creations) (t .0)))
+    let table = now (c .before .before .before .before .before .args .table) in
+    let news = end-news s table st (t .1) n ∙ sym (ap (λ k. creationsIn table (k .model .total)) (t .0)) in
+    c .counts-judged .ensures s _ _ _ (end-told s _ st (t .1) n) classes
+    ∙ ap (λ cs. verdictOf (countsJudged (st .model .done) cs)) (sym news)
     ∙ sym (ap verdictOf (end-whole _ st n))
 
 pub ended-spec : {M : Type 1} → statement M
