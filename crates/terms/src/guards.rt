@@ -108,20 +108,18 @@ fn conjoined(
 ) -> ReadValue
     ensures { λ r. ⌜ r ≡ asValue (Readers.conjoinedRead (now (cells .entry)) around (now (s .entry)) left at g) ⌝ }
 {
-    if leaves::byte_at(s, at) != b'&' {
-        return ReadValue::Got(at, g);
+    let mut end = at;
+    let mut value = g;
+    while leaves::byte_at(s, end) == b'&' {
+        match atom(s, end + 1, cells, around, left) {
+            ReadValue::Bad(p) => return ReadValue::Bad(p),
+            ReadValue::Got(p, h) => {
+                value = values::joined(Junction::Both, value, h);
+                end = p;
+            }
+        }
     }
-    match atom(s, at + 1, cells, around, left) {
-        ReadValue::Bad(p) => ReadValue::Bad(p),
-        ReadValue::Got(p, h) => conjoined(
-            s,
-            p,
-            values::joined(Junction::Both, g, h),
-            cells,
-            around,
-            left,
-        ),
-    }
+    ReadValue::Got(end, value)
 }
 
 // "a conjunction is atoms joined by `&`"
@@ -145,20 +143,18 @@ fn disjoined(
 ) -> ReadValue
     ensures { λ r. ⌜ r ≡ asValue (Readers.disjoinedRead (now (cells .entry)) around (now (s .entry)) left at g) ⌝ }
 {
-    if leaves::byte_at(s, at) != b'|' {
-        return ReadValue::Got(at, g);
+    let mut end = at;
+    let mut value = g;
+    while leaves::byte_at(s, end) == b'|' {
+        match conjunction(s, end + 1, cells, around, left) {
+            ReadValue::Bad(p) => return ReadValue::Bad(p),
+            ReadValue::Got(p, h) => {
+                value = values::joined(Junction::Either, value, h);
+                end = p;
+            }
+        }
     }
-    match conjunction(s, at + 1, cells, around, left) {
-        ReadValue::Bad(p) => ReadValue::Bad(p),
-        ReadValue::Got(p, h) => disjoined(
-            s,
-            p,
-            values::joined(Junction::Either, g, h),
-            cells,
-            around,
-            left,
-        ),
-    }
+    ReadValue::Got(end, value)
 }
 
 // "Guard: conjunctions joined by `|`", with so many brackets still allowed.

@@ -1,12 +1,12 @@
 -- The readers of guards meet their contracts: one proof of the cycle of their calls, with the measure of the readers of expressions. Assumes nothing.
-use Prim.Native.Nat.{_+_, _<_, ℕ}
+use Prim.Native.Nat.{_+_, _-_, _≤_, _<_, ℕ}
 use borrow.Author.Needs.{needs}
 use borrow.Fn.Kinds.{In}
 use borrow.Fn.PlainCycle.{Measures, is, falls, and}
 use denote.Ref.{now}
 use lib.ListN.{length}
 use mathlib.Core.Option.{some}
-use mathlib.Core.Path.{_≡_, sym, ap, _∙_}
+use mathlib.Core.Path.{_≡_, refl, sym, ap, _∙_}
 use native.Mathlib.Omega.{arith}
 use Rattle.terms.proofs.Answers.{value-got, value-bad}
 use Rattle.terms.proofs.Moving.{within-text}
@@ -111,13 +111,13 @@ abbrev atom-claims : ℕ → atom-lts.Claims
 atom-claims t = (atom-start-at-reads.Asked, atom-start-at-reads.Learnt, waited-reads.Asked, waited-reads.Learnt, named-reads.Asked, named-reads.Learnt, reply-reads.Asked, reply-reads.Learnt, test-reads.Asked, test-reads.Learnt, nested-below t, nested.Post)
 
 abbrev conjoined-claims : ℕ → conjoined-lts.Claims
-conjoined-claims t = (byte-at-reads.Asked, byte-at-reads.Learnt, atom-below t, atom.Post, joined-reads.Asked, joined-reads.Learnt, conjoined-below t, conjoined.Post)
+conjoined-claims t = (byte-at-reads.Asked, byte-at-reads.Learnt, atom-below t, atom.Post, joined-reads.Asked, joined-reads.Learnt)
 
 abbrev conjunction-claims : ℕ → conjunction-lts.Claims
 conjunction-claims t = (atom-below t, atom.Post, conjoined-below t, conjoined.Post)
 
 abbrev disjoined-claims : ℕ → disjoined-lts.Claims
-disjoined-claims t = (byte-at-reads.Asked, byte-at-reads.Learnt, conjunction-below t, conjunction.Post, joined-reads.Asked, joined-reads.Learnt, disjoined-below t, disjoined.Post)
+disjoined-claims t = (byte-at-reads.Asked, byte-at-reads.Learnt, conjunction-below t, conjunction.Post, joined-reads.Asked, joined-reads.Learnt)
 
 abbrev guard-claims : ℕ → guard-lts.Claims
 guard-claims t = (conjunction-below t, conjunction.Post, disjoined-below t, disjoined.Post)
@@ -125,15 +125,30 @@ guard-claims t = (conjunction-below t, conjunction.Post, disjoined-below t, disj
 abbrev nested-claims : ℕ → nested-lts.Claims
 nested-claims t = (guard-below t, guard.Post, byte-at-reads.Asked, byte-at-reads.Learnt)
 
+-- the invariants: what is read from here on is what is read from the start, and the place is no earlier one
+abbrev conjoined-Inv-loop : conjoined-lts.InvT-loop
+conjoined-Inv-loop s at cells around left end₀ value₀ end value =
+    (end₀ ≤ end) × (conjoinedRead cells around s left end₀ value₀ ≡ conjoinedRead cells around s left end value)
+
+abbrev conjoined-μ-loop : conjoined-lts.MeasureT-loop
+conjoined-μ-loop s at cells around left end₀ value₀ end value = length s - end
+
+abbrev disjoined-Inv-loop : disjoined-lts.InvT-loop
+disjoined-Inv-loop s at cells around left end₀ value₀ end value =
+    (end₀ ≤ end) × (disjoinedRead cells around s left end₀ value₀ ≡ disjoinedRead cells around s left end value)
+
+abbrev disjoined-μ-loop : disjoined-lts.MeasureT-loop
+disjoined-μ-loop s at cells around left end₀ value₀ end value = length s - end
+
 -- the byte that `conjoined` found
-conjoined-operator : (t : ℕ) (c : conjoined-lts.Else1 (conjoined-claims t) (conjoined-at t) conjoined.Post)
-    → ampersand (byteAt (c .before .before .before .args .s .now) (c .before .before .before .args .at)) ≡ some Both
-conjoined-operator t c = ampersand-some _ (sym (c .before .byte-at .ensures) ∙ c .if1 .left)
+conjoined-operator : (t : ℕ) (c : conjoined-lts.Then1 (conjoined-claims t) (conjoined-at t) conjoined.Post conjoined-Inv-loop conjoined-μ-loop)
+    → ampersand (byteAt (c .before .before .before .before .args .s .now) (c .before .before .loop .end)) ≡ some Both
+conjoined-operator t c = ampersand-some _ (sym (c .before .byte-at .ensures) ∙ c .if1 .taken)
 
 -- the byte that `disjoined` found
-disjoined-operator : (t : ℕ) (c : disjoined-lts.Else1 (disjoined-claims t) (disjoined-at t) disjoined.Post)
-    → bar (byteAt (c .before .before .before .args .s .now) (c .before .before .before .args .at)) ≡ some Either
-disjoined-operator t c = bar-some _ (sym (c .before .byte-at .ensures) ∙ c .if1 .left)
+disjoined-operator : (t : ℕ) (c : disjoined-lts.Then1 (disjoined-claims t) (disjoined-at t) disjoined.Post disjoined-Inv-loop disjoined-μ-loop)
+    → bar (byteAt (c .before .before .before .before .args .s .now) (c .before .before .loop .end)) ≡ some Either
+disjoined-operator t c = bar-some _ (sym (c .before .byte-at .ensures) ∙ c .if1 .taken)
 
 atom-atom-start-at-requires : (t : ℕ) → atom-lts.Need-atom-start-at-requires (atom-claims t) (atom-at t) atom.Post
 atom-atom-start-at-requires t c κs = search needs
@@ -196,63 +211,75 @@ atom-returns-5 : (t : ℕ) → atom-lts.Need-returns-5 (atom-claims t) (atom-at 
 unfolding atomBy asValue
 atom-returns-5 t c = sym (ap asValue (atom-by _ _ _ _ _ _ _ _ (sym (c .before .before .atom-start-at .ensures) ∙ c .enum-told5 .given .1)))
 
-conjoined-byte-at-requires : (t : ℕ) → conjoined-lts.Need-byte-at-requires (conjoined-claims t) (conjoined-at t) conjoined.Post
+conjoined-loop-holds : (t : ℕ) → conjoined-lts.Need-loop-holds (conjoined-claims t) (conjoined-at t) conjoined.Post conjoined-Inv-loop conjoined-μ-loop
+conjoined-loop-holds t c = (omega arith, refl)
+
+conjoined-byte-at-requires : (t : ℕ) → conjoined-lts.Need-byte-at-requires (conjoined-claims t) (conjoined-at t) conjoined.Post conjoined-Inv-loop conjoined-μ-loop
 conjoined-byte-at-requires t c κs = search needs
 
-conjoined-returns : (t : ℕ) → conjoined-lts.Need-returns (conjoined-claims t) (conjoined-at t) conjoined.Post
-unfolding asValue
-conjoined-returns t c =
-    let s = c .before .before .before in
-    sym (ap asValue (joined-stop ampersand joined (s .args .s .now) _ (s .args .at) (s .args .g) _ (ampersand-none _ (λ e. c .if1 .taken (c .before .byte-at .ensures ∙ e)))))
-
-conjoined-add-atom : (t : ℕ) → conjoined-lts.Need-add-atom (conjoined-claims t) (conjoined-at t) conjoined.Post
+conjoined-add-atom : (t : ℕ) → conjoined-lts.Need-add-atom (conjoined-claims t) (conjoined-at t) conjoined.Post conjoined-Inv-loop conjoined-μ-loop
 conjoined-add-atom t c =
-    let s = c .before .before .before in
-    let w = operator-within ampersand ampersand-zero (s .args .s .now) (s .args .at) _ (conjoined-operator t c) in
+    let s = c .before .before .before .before in
+    let l = c .before .before .loop in
+    let w = operator-within ampersand ampersand-zero (s .args .s .now) (l .end) _ (conjoined-operator t c) in
     omega arith
 
-conjoined-atom-requires : (t : ℕ) → conjoined-lts.Need-atom-requires (conjoined-claims t) (conjoined-at t) conjoined.Post
+conjoined-atom-requires : (t : ℕ) → conjoined-lts.Need-atom-requires (conjoined-claims t) (conjoined-at t) conjoined.Post conjoined-Inv-loop conjoined-μ-loop
 conjoined-atom-requires t c κs =
-    let s = c .before .before .before in
-    let w = operator-within ampersand ampersand-zero (s .args .s .now) (s .args .at) _ (conjoined-operator t c) in
+    let s = c .before .before .before .before in
+    let l = c .before .before .loop in
+    let w = operator-within ampersand ampersand-zero (s .args .s .now) (l .end) _ (conjoined-operator t c) in
+    let i = l .inv .0 in
     let e = s .pre .0 in
-    (omega (arith, weight-on (length (s .args .s .now)) (s .args .left) (s .args .at) (s .args .at + 1) 1 2 w (omega arith) (omega arith)), tt)
+    (omega (arith, weight-on (length (s .args .s .now)) (s .args .left) (s .args .at) (l .end + 1) 1 2 (omega arith) (omega arith) (omega arith)), tt)
 
-conjoined-enum-known-p : (t : ℕ) → conjoined-lts.Need-enum-known-p (conjoined-claims t) (conjoined-at t) conjoined.Post
+conjoined-enum-known-p : (t : ℕ) → conjoined-lts.Need-enum-known-p (conjoined-claims t) (conjoined-at t) conjoined.Post conjoined-Inv-loop conjoined-μ-loop
 conjoined-enum-known-p t c = search needs
 
-conjoined-enum-known-p-2 : (t : ℕ) → conjoined-lts.Need-enum-known-p-2 (conjoined-claims t) (conjoined-at t) conjoined.Post
-conjoined-enum-known-p-2 t c = search needs
-
-conjoined-joined-requires : (t : ℕ) → conjoined-lts.Need-joined-requires (conjoined-claims t) (conjoined-at t) conjoined.Post
-conjoined-joined-requires t c κs = search needs
-
-conjoined-conjoined-requires : (t : ℕ) → conjoined-lts.Need-conjoined-requires (conjoined-claims t) (conjoined-at t) conjoined.Post
-conjoined-conjoined-requires t c κs =
-    let s = c .before .before .before .before .before .before .before .before in
-    let w = operator-within ampersand ampersand-zero (s .args .s .now) (s .args .at) _ (conjoined-operator t (c .before .before .before .before .before)) in
-    let m = moves-atom _ _ _ _ _ (moves-opened _ _ _ (moves-expression _ _ _) _) _ (moves-opened _ _ _ (moves-guard _ _ _ _) _) _ _ _ (value-got _ _ _ (sym (c .before .before .before .before .atom .ensures) ∙ c .before .before .p2 .given .1)) in
-    let e = s .pre .0 in
-    (omega (arith, weight-on (length (s .args .s .now)) (s .args .left) (s .args .at) (c .before .before .p2 .given .0 .0) 2 2 w (omega arith) (omega arith)), tt)
-
-conjoined-returns-2 : (t : ℕ) → conjoined-lts.Need-returns-2 (conjoined-claims t) (conjoined-at t) conjoined.Post
+conjoined-returns : (t : ℕ) → conjoined-lts.Need-returns (conjoined-claims t) (conjoined-at t) conjoined.Post conjoined-Inv-loop conjoined-μ-loop
 unfolding asValue
-conjoined-returns-2 t c =
-    let s = c .before .before .before .before .before .before .before in
-    let o = conjoined-operator t (c .before .before .before .before) in
-    sym (ap asValue (joined-fail ampersand joined (s .args .s .now) _ (s .args .at) (s .args .g) _ o _
-    (moves-atom _ _ _ _ _ (moves-opened _ _ _ (moves-expression _ _ _) _) _ (moves-opened _ _ _ (moves-guard _ _ _ _) _)) ampersand-zero (operator-within ampersand ampersand-zero (s .args .s .now) (s .args .at) _ o)
+conjoined-returns t c =
+    let s = c .before .before .before .before .before .before .before .before in
+    let l = c .before .before .before .before .before .before .loop in
+    let w = operator-within ampersand ampersand-zero (s .args .s .now) (l .end) _ (conjoined-operator t (c .before .before .before .before)) in
+    sym (ap asValue (l .inv .1 ∙ joined-fail ampersand joined (s .args .s .now) _ (l .end) (l .value) _ (conjoined-operator t (c .before .before .before .before)) _
+    (moves-atom _ _ _ _ _ (moves-opened _ _ _ (moves-expression _ _ _) _) _ (moves-opened _ _ _ (moves-guard _ _ _ _) _)) ampersand-zero w
     (value-bad _ _ (sym (c .before .before .before .atom .ensures) ∙ c .before .p .given .1))))
 
-conjoined-returns-3 : (t : ℕ) → conjoined-lts.Need-returns-3 (conjoined-claims t) (conjoined-at t) conjoined.Post
-conjoined-returns-3 t c =
+conjoined-enum-known-p-2 : (t : ℕ) → conjoined-lts.Need-enum-known-p-2 (conjoined-claims t) (conjoined-at t) conjoined.Post conjoined-Inv-loop conjoined-μ-loop
+conjoined-enum-known-p-2 t c = search needs
+
+conjoined-joined-requires : (t : ℕ) → conjoined-lts.Need-joined-requires (conjoined-claims t) (conjoined-at t) conjoined.Post conjoined-Inv-loop conjoined-μ-loop
+conjoined-joined-requires t c κs = search needs
+
+conjoined-loop-less : (t : ℕ) → conjoined-lts.Need-loop-less (conjoined-claims t) (conjoined-at t) conjoined.Post conjoined-Inv-loop conjoined-μ-loop
+conjoined-loop-less t c =
     let s = c .before .before .before .before .before .before .before .before .before in
-    let o = conjoined-operator t (c .before .before .before .before .before .before) in
-    c .conjoined .ensures
-    ∙ ap (λ w. asValue (conjoinedRead (now (s .args .cells)) (s .args .around) (s .args .s .now) (s .args .left) (c .before .before .before .p2 .given .0 .0) w)) (c .before .joined .ensures)
-    ∙ sym (ap asValue (joined-go ampersand joined (s .args .s .now) _ (s .args .at) (s .args .g) _ o _
-    (moves-atom _ _ _ _ _ (moves-opened _ _ _ (moves-expression _ _ _) _) _ (moves-opened _ _ _ (moves-guard _ _ _ _) _)) ampersand-zero (operator-within ampersand ampersand-zero (s .args .s .now) (s .args .at) _ o)
-    _ (value-got _ _ _ (sym (c .before .before .before .before .before .atom .ensures) ∙ c .before .before .before .p2 .given .1))))
+    let l = c .before .before .before .before .before .before .before .loop in
+    let w = operator-within ampersand ampersand-zero (s .args .s .now) (l .end) _ (conjoined-operator t (c .before .before .before .before .before)) in
+    let m = moves-atom _ _ _ _ _ (moves-opened _ _ _ (moves-expression _ _ _) _) _ (moves-opened _ _ _ (moves-guard _ _ _ _) _) _ _ _ (value-got _ _ _ (sym (c .before .before .before .before .atom .ensures) ∙ c .before .before .p2 .given .1)) in
+    omega arith
+
+conjoined-loop-again : (t : ℕ) → conjoined-lts.Need-loop-again (conjoined-claims t) (conjoined-at t) conjoined.Post conjoined-Inv-loop conjoined-μ-loop
+conjoined-loop-again t c =
+    let s = c .before .before .before .before .before .before .before .before .before in
+    let l = c .before .before .before .before .before .before .before .loop in
+    let w = operator-within ampersand ampersand-zero (s .args .s .now) (l .end) _ (conjoined-operator t (c .before .before .before .before .before)) in
+    let m = moves-atom _ _ _ _ _ (moves-opened _ _ _ (moves-expression _ _ _) _) _ (moves-opened _ _ _ (moves-guard _ _ _ _) _) _ _ _ (value-got _ _ _ (sym (c .before .before .before .before .atom .ensures) ∙ c .before .before .p2 .given .1)) in
+    let i = l .inv .0 in (
+      omega arith,
+      l .inv .1
+          ∙ joined-go ampersand joined (s .args .s .now) _ (l .end) (l .value) _ (conjoined-operator t (c .before .before .before .before .before)) _
+          (moves-atom _ _ _ _ _ (moves-opened _ _ _ (moves-expression _ _ _) _) _ (moves-opened _ _ _ (moves-guard _ _ _ _) _)) ampersand-zero w _ (value-got _ _ _ (sym (c .before .before .before .before .atom .ensures) ∙ c .before .before .p2 .given .1))
+          ∙ ap (λ v. conjoinedRead (now (s .args .cells)) (s .args .around) (s .args .s .now) (s .args .left) (c .before .before .p2 .given .0 .0) v) (sym (c .joined .ensures)),
+    )
+
+conjoined-returns-2 : (t : ℕ) → conjoined-lts.Need-returns-2 (conjoined-claims t) (conjoined-at t) conjoined.Post conjoined-Inv-loop conjoined-μ-loop
+unfolding asValue
+conjoined-returns-2 t c =
+    let s = c .before .before .before .before in
+    let l = c .before .before .loop in
+    sym (ap asValue (l .inv .1 ∙ joined-stop ampersand joined (s .args .s .now) _ (l .end) (l .value) _ (ampersand-none _ (λ e. c .if1 .left (c .before .byte-at .ensures ∙ e)))))
 
 conjunction-atom-requires : (t : ℕ) → conjunction-lts.Need-atom-requires (conjunction-claims t) (conjunction-at t) conjunction.Post
 conjunction-atom-requires t c κs =
@@ -286,63 +313,75 @@ conjunction-returns-2 t c =
     c .conjoined .ensures
     ∙ sym (ap asValue (series-go ampersand joined (s .args .s .now) _ (length (s .args .s .now)) (s .args .at) _ _ (value-got _ _ _ (sym (c .before .before .before .before .atom .ensures) ∙ c .before .before .p2 .given .1))))
 
-disjoined-byte-at-requires : (t : ℕ) → disjoined-lts.Need-byte-at-requires (disjoined-claims t) (disjoined-at t) disjoined.Post
+disjoined-loop-holds : (t : ℕ) → disjoined-lts.Need-loop-holds (disjoined-claims t) (disjoined-at t) disjoined.Post disjoined-Inv-loop disjoined-μ-loop
+disjoined-loop-holds t c = (omega arith, refl)
+
+disjoined-byte-at-requires : (t : ℕ) → disjoined-lts.Need-byte-at-requires (disjoined-claims t) (disjoined-at t) disjoined.Post disjoined-Inv-loop disjoined-μ-loop
 disjoined-byte-at-requires t c κs = search needs
 
-disjoined-returns : (t : ℕ) → disjoined-lts.Need-returns (disjoined-claims t) (disjoined-at t) disjoined.Post
-unfolding asValue
-disjoined-returns t c =
-    let s = c .before .before .before in
-    sym (ap asValue (joined-stop bar joined (s .args .s .now) _ (s .args .at) (s .args .g) _ (bar-none _ (λ e. c .if1 .taken (c .before .byte-at .ensures ∙ e)))))
-
-disjoined-add-conjunction : (t : ℕ) → disjoined-lts.Need-add-conjunction (disjoined-claims t) (disjoined-at t) disjoined.Post
+disjoined-add-conjunction : (t : ℕ) → disjoined-lts.Need-add-conjunction (disjoined-claims t) (disjoined-at t) disjoined.Post disjoined-Inv-loop disjoined-μ-loop
 disjoined-add-conjunction t c =
-    let s = c .before .before .before in
-    let w = operator-within bar bar-zero (s .args .s .now) (s .args .at) _ (disjoined-operator t c) in
+    let s = c .before .before .before .before in
+    let l = c .before .before .loop in
+    let w = operator-within bar bar-zero (s .args .s .now) (l .end) _ (disjoined-operator t c) in
     omega arith
 
-disjoined-conjunction-requires : (t : ℕ) → disjoined-lts.Need-conjunction-requires (disjoined-claims t) (disjoined-at t) disjoined.Post
+disjoined-conjunction-requires : (t : ℕ) → disjoined-lts.Need-conjunction-requires (disjoined-claims t) (disjoined-at t) disjoined.Post disjoined-Inv-loop disjoined-μ-loop
 disjoined-conjunction-requires t c κs =
-    let s = c .before .before .before in
-    let w = operator-within bar bar-zero (s .args .s .now) (s .args .at) _ (disjoined-operator t c) in
+    let s = c .before .before .before .before in
+    let l = c .before .before .loop in
+    let w = operator-within bar bar-zero (s .args .s .now) (l .end) _ (disjoined-operator t c) in
+    let i = l .inv .0 in
     let e = s .pre .0 in
-    (omega (arith, weight-on (length (s .args .s .now)) (s .args .left) (s .args .at) (s .args .at + 1) 3 4 w (omega arith) (omega arith)), tt)
+    (omega (arith, weight-on (length (s .args .s .now)) (s .args .left) (s .args .at) (l .end + 1) 3 4 (omega arith) (omega arith) (omega arith)), tt)
 
-disjoined-enum-known-p : (t : ℕ) → disjoined-lts.Need-enum-known-p (disjoined-claims t) (disjoined-at t) disjoined.Post
+disjoined-enum-known-p : (t : ℕ) → disjoined-lts.Need-enum-known-p (disjoined-claims t) (disjoined-at t) disjoined.Post disjoined-Inv-loop disjoined-μ-loop
 disjoined-enum-known-p t c = search needs
 
-disjoined-enum-known-p-2 : (t : ℕ) → disjoined-lts.Need-enum-known-p-2 (disjoined-claims t) (disjoined-at t) disjoined.Post
-disjoined-enum-known-p-2 t c = search needs
-
-disjoined-joined-requires : (t : ℕ) → disjoined-lts.Need-joined-requires (disjoined-claims t) (disjoined-at t) disjoined.Post
-disjoined-joined-requires t c κs = search needs
-
-disjoined-disjoined-requires : (t : ℕ) → disjoined-lts.Need-disjoined-requires (disjoined-claims t) (disjoined-at t) disjoined.Post
-disjoined-disjoined-requires t c κs =
-    let s = c .before .before .before .before .before .before .before .before in
-    let w = operator-within bar bar-zero (s .args .s .now) (s .args .at) _ (disjoined-operator t (c .before .before .before .before .before)) in
-    let m = moves-conjunction _ _ _ _ _ (moves-opened _ _ _ (moves-expression _ _ _) _) _ (moves-opened _ _ _ (moves-guard _ _ _ _) _) _ _ _ (value-got _ _ _ (sym (c .before .before .before .before .conjunction .ensures) ∙ c .before .before .p2 .given .1)) in
-    let e = s .pre .0 in
-    (omega (arith, weight-on (length (s .args .s .now)) (s .args .left) (s .args .at) (c .before .before .p2 .given .0 .0) 4 4 w (omega arith) (omega arith)), tt)
-
-disjoined-returns-2 : (t : ℕ) → disjoined-lts.Need-returns-2 (disjoined-claims t) (disjoined-at t) disjoined.Post
+disjoined-returns : (t : ℕ) → disjoined-lts.Need-returns (disjoined-claims t) (disjoined-at t) disjoined.Post disjoined-Inv-loop disjoined-μ-loop
 unfolding asValue
-disjoined-returns-2 t c =
-    let s = c .before .before .before .before .before .before .before in
-    let o = disjoined-operator t (c .before .before .before .before) in
-    sym (ap asValue (joined-fail bar joined (s .args .s .now) _ (s .args .at) (s .args .g) _ o _
-    (moves-conjunction _ _ _ _ _ (moves-opened _ _ _ (moves-expression _ _ _) _) _ (moves-opened _ _ _ (moves-guard _ _ _ _) _)) bar-zero (operator-within bar bar-zero (s .args .s .now) (s .args .at) _ o)
+disjoined-returns t c =
+    let s = c .before .before .before .before .before .before .before .before in
+    let l = c .before .before .before .before .before .before .loop in
+    let w = operator-within bar bar-zero (s .args .s .now) (l .end) _ (disjoined-operator t (c .before .before .before .before)) in
+    sym (ap asValue (l .inv .1 ∙ joined-fail bar joined (s .args .s .now) _ (l .end) (l .value) _ (disjoined-operator t (c .before .before .before .before)) _
+    (moves-conjunction _ _ _ _ _ (moves-opened _ _ _ (moves-expression _ _ _) _) _ (moves-opened _ _ _ (moves-guard _ _ _ _) _)) bar-zero w
     (value-bad _ _ (sym (c .before .before .before .conjunction .ensures) ∙ c .before .p .given .1))))
 
-disjoined-returns-3 : (t : ℕ) → disjoined-lts.Need-returns-3 (disjoined-claims t) (disjoined-at t) disjoined.Post
-disjoined-returns-3 t c =
+disjoined-enum-known-p-2 : (t : ℕ) → disjoined-lts.Need-enum-known-p-2 (disjoined-claims t) (disjoined-at t) disjoined.Post disjoined-Inv-loop disjoined-μ-loop
+disjoined-enum-known-p-2 t c = search needs
+
+disjoined-joined-requires : (t : ℕ) → disjoined-lts.Need-joined-requires (disjoined-claims t) (disjoined-at t) disjoined.Post disjoined-Inv-loop disjoined-μ-loop
+disjoined-joined-requires t c κs = search needs
+
+disjoined-loop-less : (t : ℕ) → disjoined-lts.Need-loop-less (disjoined-claims t) (disjoined-at t) disjoined.Post disjoined-Inv-loop disjoined-μ-loop
+disjoined-loop-less t c =
     let s = c .before .before .before .before .before .before .before .before .before in
-    let o = disjoined-operator t (c .before .before .before .before .before .before) in
-    c .disjoined .ensures
-    ∙ ap (λ w. asValue (disjoinedRead (now (s .args .cells)) (s .args .around) (s .args .s .now) (s .args .left) (c .before .before .before .p2 .given .0 .0) w)) (c .before .joined .ensures)
-    ∙ sym (ap asValue (joined-go bar joined (s .args .s .now) _ (s .args .at) (s .args .g) _ o _
-    (moves-conjunction _ _ _ _ _ (moves-opened _ _ _ (moves-expression _ _ _) _) _ (moves-opened _ _ _ (moves-guard _ _ _ _) _)) bar-zero (operator-within bar bar-zero (s .args .s .now) (s .args .at) _ o)
-    _ (value-got _ _ _ (sym (c .before .before .before .before .before .conjunction .ensures) ∙ c .before .before .before .p2 .given .1))))
+    let l = c .before .before .before .before .before .before .before .loop in
+    let w = operator-within bar bar-zero (s .args .s .now) (l .end) _ (disjoined-operator t (c .before .before .before .before .before)) in
+    let m = moves-conjunction _ _ _ _ _ (moves-opened _ _ _ (moves-expression _ _ _) _) _ (moves-opened _ _ _ (moves-guard _ _ _ _) _) _ _ _ (value-got _ _ _ (sym (c .before .before .before .before .conjunction .ensures) ∙ c .before .before .p2 .given .1)) in
+    omega arith
+
+disjoined-loop-again : (t : ℕ) → disjoined-lts.Need-loop-again (disjoined-claims t) (disjoined-at t) disjoined.Post disjoined-Inv-loop disjoined-μ-loop
+disjoined-loop-again t c =
+    let s = c .before .before .before .before .before .before .before .before .before in
+    let l = c .before .before .before .before .before .before .before .loop in
+    let w = operator-within bar bar-zero (s .args .s .now) (l .end) _ (disjoined-operator t (c .before .before .before .before .before)) in
+    let m = moves-conjunction _ _ _ _ _ (moves-opened _ _ _ (moves-expression _ _ _) _) _ (moves-opened _ _ _ (moves-guard _ _ _ _) _) _ _ _ (value-got _ _ _ (sym (c .before .before .before .before .conjunction .ensures) ∙ c .before .before .p2 .given .1)) in
+    let i = l .inv .0 in (
+      omega arith,
+      l .inv .1
+          ∙ joined-go bar joined (s .args .s .now) _ (l .end) (l .value) _ (disjoined-operator t (c .before .before .before .before .before)) _
+          (moves-conjunction _ _ _ _ _ (moves-opened _ _ _ (moves-expression _ _ _) _) _ (moves-opened _ _ _ (moves-guard _ _ _ _) _)) bar-zero w _ (value-got _ _ _ (sym (c .before .before .before .before .conjunction .ensures) ∙ c .before .before .p2 .given .1))
+          ∙ ap (λ v. disjoinedRead (now (s .args .cells)) (s .args .around) (s .args .s .now) (s .args .left) (c .before .before .p2 .given .0 .0) v) (sym (c .joined .ensures)),
+    )
+
+disjoined-returns-2 : (t : ℕ) → disjoined-lts.Need-returns-2 (disjoined-claims t) (disjoined-at t) disjoined.Post disjoined-Inv-loop disjoined-μ-loop
+unfolding asValue
+disjoined-returns-2 t c =
+    let s = c .before .before .before .before in
+    let l = c .before .before .loop in
+    sym (ap asValue (l .inv .1 ∙ joined-stop bar joined (s .args .s .now) _ (l .end) (l .value) _ (bar-none _ (λ e. c .if1 .left (c .before .byte-at .ensures ∙ e)))))
 
 guard-conjunction-requires : (t : ℕ) → guard-lts.Need-conjunction-requires (guard-claims t) (guard-at t) guard.Post
 guard-conjunction-requires t c κs =
@@ -447,17 +486,18 @@ pub +atom+conjoined+conjunction+disjoined+guard+nested-spec : {M : Type 1} → s
     (atom-returns-3 t)
     (atom-returns-4 t)
     (atom-returns-5 t))
-    (λ t. conjoined-lts.spec (conjoined-claims t) (conjoined-at t) conjoined.Post
+    (λ t. conjoined-lts.spec (conjoined-claims t) (conjoined-at t) conjoined.Post conjoined-Inv-loop conjoined-μ-loop
+    (conjoined-loop-holds t)
     (conjoined-byte-at-requires t)
-    (conjoined-returns t)
     (conjoined-add-atom t)
     (conjoined-atom-requires t)
     (conjoined-enum-known-p t)
+    (conjoined-returns t)
     (conjoined-enum-known-p-2 t)
     (conjoined-joined-requires t)
-    (conjoined-conjoined-requires t)
-    (conjoined-returns-2 t)
-    (conjoined-returns-3 t))
+    (conjoined-loop-less t)
+    (conjoined-loop-again t)
+    (conjoined-returns-2 t))
     (λ t. conjunction-lts.spec
     (atom-below t, atom.Post, conjoined-below t, conjoined.Post)
     (conjunction-at t)
@@ -468,17 +508,18 @@ pub +atom+conjoined+conjunction+disjoined+guard+nested-spec : {M : Type 1} → s
     (conjunction-conjoined-requires t)
     (conjunction-returns t)
     (conjunction-returns-2 t))
-    (λ t. disjoined-lts.spec (disjoined-claims t) (disjoined-at t) disjoined.Post
+    (λ t. disjoined-lts.spec (disjoined-claims t) (disjoined-at t) disjoined.Post disjoined-Inv-loop disjoined-μ-loop
+    (disjoined-loop-holds t)
     (disjoined-byte-at-requires t)
-    (disjoined-returns t)
     (disjoined-add-conjunction t)
     (disjoined-conjunction-requires t)
     (disjoined-enum-known-p t)
+    (disjoined-returns t)
     (disjoined-enum-known-p-2 t)
     (disjoined-joined-requires t)
-    (disjoined-disjoined-requires t)
-    (disjoined-returns-2 t)
-    (disjoined-returns-3 t))
+    (disjoined-loop-less t)
+    (disjoined-loop-again t)
+    (disjoined-returns-2 t))
     (λ t. guard-lts.spec (guard-claims t) (guard-at t) guard.Post
     (guard-conjunction-requires t)
     (guard-enum-known-p t)
