@@ -24,6 +24,7 @@ pub mod Plain
 pub mod Puts
 pub mod ReadBounds
 pub mod Session
+pub mod SoundEnds
 pub mod TableRows
 pub mod VerdictBounds
 pub mod Verdicts

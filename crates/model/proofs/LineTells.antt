@@ -1,13 +1,13 @@
 -- What one line makes of a state and of the table, by what the code found of it. Assumes nothing.
 use Prim.Native.Nat.{ℕ, zero, suc, _+_, _-_, _≤_, _<_}
-use mathlib.Core.Bool.{true, false}
+use mathlib.Core.Bool.{true}
 use mathlib.Core.List.{List, [], _∷_}
 use mathlib.Core.Path.{_≡_, refl, sym, ap, subst, _∙_}
 use native.Mathlib.Nat.{zero-add, suc-add}
 use native.Mathlib.Omega.{arith}
 use lib.ListN.{length, take, drop}
 use lib.Seq.{drop-drop, take-nil}
-use Rattle.whole.specs.Refusals.{brokenLine, wrongKey}
+use Rattle.whole.specs.Refusals.{wrongKey}
 use Rattle.terms.specs.Bytes.{Text}
 use Rattle.terms.specs.Parsed.{got, bad, word}
 use Rattle.model.specs.declared.Asked.{Asked}
@@ -90,20 +90,15 @@ pub named : (k : Counts) (st : State) → k ≡ counted st → (l : Text) → wo
 unfolding counted
 named k st e l = ap (λ i. word (nameOf (i .key)) l 0) (sym e)
 
--- a line that its LF ends
-module _ (at : ℕ) (st : State) (l : Text) where
-  pub feed-broken : sound (whole l) ≡ false → feed at st (whole l) ≡ refused brokenLine
-  unfolding feed
-  feed-broken e = rw (e, feed) refl
+-- a sound line
+module _ (at : ℕ) (st : State) (l : Text) (e : sound (whole l) ≡ true) where
+  pub feed-unkeyed : (p : ℕ) → word (nameOf (st .key)) l 0 ≡ bad p → feed at st (whole l) ≡ refused wrongKey
+  unfolding feed content
+  feed-unkeyed p f = rw (e, f, feed) refl
 
-  module _ (e : sound (whole l) ≡ true) where
-    pub feed-unkeyed : (p : ℕ) → word (nameOf (st .key)) l 0 ≡ bad p → feed at st (whole l) ≡ refused wrongKey
-    unfolding feed content
-    feed-unkeyed p f = rw (e, f, feed) refl
-
-    pub feed-valued : (p : ℕ) → word (nameOf (st .key)) l 0 ≡ got p tt → feed at st (whole l) ≡ valueLine at st (asked (st .key)) (drop p l)
-    unfolding feed content
-    feed-valued p f = rw (e, f, feed) refl
+  pub feed-valued : (p : ℕ) → word (nameOf (st .key)) l 0 ≡ got p tt → feed at st (whole l) ≡ valueLine at st (asked (st .key)) (drop p l)
+  unfolding feed content
+  feed-valued p f = rw (e, f, feed) refl
 
 -- a part of a part
 drop-take : (p m : ℕ) (l : Text) → drop p (take (p + m) l) ≡ take m (drop p l)

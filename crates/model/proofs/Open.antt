@@ -12,10 +12,14 @@ use Rattle.code.proofs.Open.{code-open}
 
 unfoldable pub model-open : Unit {0}
 unfolding code-open Automaton.freshClass Automaton.freshMethod Automaton.freshModel Automaton.begin Automaton.withModel
-    Automaton.withClass Automaton.withMethod Automaton.modelCounted Automaton.classCounted Automaton.methodCounted Automaton.counted Counts.inFirstClass Counts.inRunMethod Counts.lowestRun Counts.highestGiven Counts.highestParams Counts.highestLines Counts.lowest Counts.highest
-    Automaton.classJoined Automaton.classClosed Automaton.nextMethod Automaton.methodJoined Automaton.methodClosed Automaton.methodsBegun Automaton.linesCounted Automaton.linesBegun Automaton.numbered Automaton.numberLine Automaton.creationsOf
-    Counts.isLast Counts.endsMethod Counts.mayStand Automaton.codeJoined Automaton.creationsJoined Automaton.lineJoined Automaton.stated Automaton.blockLine Automaton.limitsOf Automaton.codeLine Automaton.valueLine
-    Automaton.feed Automaton.asFed Judge.givenTo Judge.countsJudged Judge.endJudged Judge.linesJudged Judge.judged Judge.verdictOf Judge.judge
-    Creations.newNumber Creations.creationTold Creations.creationsFrom Creations.newFits Keys.nameOf Keys.asked Lines.grown Lines.lines Lines.beforeFeed Lines.lineEnd Lines.plainBytes Lines.sound Lines.content Model.runs
-    Model.takes Model.methodOf Model.bindsTo Numbers.numberIn Numbers.asNumberLine Table.rowOf Table.put Table.Rows
+    Automaton.withClass Automaton.withMethod Automaton.modelCounted Automaton.classCounted Automaton.methodCounted Automaton.counted
+    Counts.inFirstClass Counts.inRunMethod Counts.lowestRun Counts.highestGiven Counts.highestParams Counts.highestLines Counts.lowest
+    Counts.highest Automaton.classJoined Automaton.classClosed Automaton.nextMethod Automaton.methodJoined Automaton.methodClosed
+    Automaton.methodsBegun Automaton.linesCounted Automaton.linesBegun Automaton.numbered Automaton.numberLine Automaton.creationsOf
+    Counts.isLast Counts.endsMethod Counts.mayStand Automaton.codeJoined Automaton.creationsJoined Automaton.lineJoined
+    Automaton.stated Automaton.blockLine Automaton.limitsOf Automaton.codeLine Automaton.valueLine Automaton.feed Automaton.asFed
+    Judge.givenTo Judge.countsJudged Judge.endJudged Judge.linesJudged Judge.judged Judge.verdictOf Judge.judge Creations.newNumber
+    Creations.creationTold Creations.creationsFrom Creations.newFits Keys.nameOf Keys.asked Lines.grown Lines.lines Lines.plainBytes
+    Lines.sound Lines.content Lines.firstEnd Lines.soundEnd Model.runs Model.takes Model.methodOf Model.bindsTo Numbers.numberIn
+    Numbers.asNumberLine Table.rowOf Table.put Table.Rows
 model-open = tt

@@ -21,7 +21,7 @@ use Rattle.model.specs.Creations.{creationsIn}
 use Rattle.model.specs.Filling.{atEnd, partOf, whole, reached, PartHeld, Held, HeldAfter}
 use Rattle.model.specs.Judge.{Judged, refusal, model, givenTo, countsJudged, endJudged, linesJudged, judged, verdictOf, judge}
 use Rattle.model.specs.Keys.{asked}
-use Rattle.model.specs.Lines.{Line, unended, sound, lines, longestText}
+use Rattle.model.specs.Lines.{Line, sound, lines, longestText}
 use Rattle.model.specs.Model.{Model}
 use Rattle.model.specs.Table.{Table, Rows, size}
 use Rattle.model.proofs.CountsOfNew.{verdict-refusal}
@@ -59,9 +59,9 @@ module _ (at : ℕ) (st : State) (l : Line) (ls : List Line) where
   unfolding linesJudged
   lines-fed after e = rw (e, linesJudged) refl
 
-pub feed-unended : (at : ℕ) (st : State) (l : Text) → feed at st (unended l) ≡ refused brokenLine
-unfolding feed sound
-feed-unended at st l = refl
+pub feed-broken : (at : ℕ) (st : State) (l : Line) → sound l ≡ false → feed at st l ≡ refused brokenLine
+unfolding feed
+feed-broken at st l e = rw (e, feed) refl
 
 pub lines-ended : (at : ℕ) (st : State) → linesJudged at st [] ≡ endJudged at st (asked (st .key))
 unfolding linesJudged

@@ -1,10 +1,12 @@
 -- "At most 32,768 bytes; lines of at most 120 bytes from 32 to 126, each ended by LF." Assumes nothing.
-use Prim.Native.Nat.{ℕ, suc, _+_}
+use Prim.Native.Nat.{ℕ, _+_}
 use mathlib.Core.Bool.{Bool, true, false, _&&_}
 use mathlib.Core.List.{List, [], _∷_}
 use lib.Dec.{leb, eqb}
 use lib.ListN.{length, drop}
 use Rattle.terms.specs.Bytes.{Text}
+use Rattle.model.specs.declared.LineFound.{LineFound}
+use Rattle.model.specs.declared.LineFound.the-variants as LineFound
 
 -- "At most 32,768 bytes"
 abbrev pub longestText : ℕ
@@ -33,15 +35,6 @@ unfoldable pub lines : Text → List Line
 lines [] = []
 lines (b ∷ s) = elim (eqb b lineFeed) [ true ↦ whole [] ∷ lines s | false ↦ grown b (lines s) ]
 
--- how many bytes stand before the first LF, or before the end
-unfoldable pub beforeFeed : Text → ℕ
-beforeFeed [] = 0
-beforeFeed (b ∷ s) = elim (eqb b lineFeed) [ true ↦ 0 | false ↦ suc (beforeFeed s) ]
-
--- the place of the first LF from a place on, or the end of the text; a place past the end is its own
-unfoldable pub lineEnd : Text → ℕ → ℕ
-lineEnd s at = at + beforeFeed (drop at s)
-
 -- "bytes from 32 to 126"
 unfoldable pub plainBytes : Text → Bool
 plainBytes [] = true
@@ -55,3 +48,12 @@ sound (unended l) = false
 unfoldable pub content : Line → Text
 content (whole l) = l
 content (unended l) = l
+
+-- the end of the first of some lines, which begins at a place: where its LF stands, if the line is sound
+unfoldable pub firstEnd : ℕ → List Line → LineFound
+firstEnd at [] = LineFound.Broken
+firstEnd at (l ∷ ls) = elim (sound l) [ true ↦ LineFound.Sound (at + length (content l)) | false ↦ LineFound.Broken ]
+
+-- the end of the line that begins at a place
+unfoldable pub soundEnd : Text → ℕ → LineFound
+soundEnd s at = firstEnd at (lines (drop at s))

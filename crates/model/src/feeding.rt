@@ -7,11 +7,11 @@ use crate::automaton;
 use crate::code_lines;
 use crate::filling;
 use crate::keys;
-use crate::lines;
 use crate::numbers;
 use crate::ranges;
 use terms::ReadWord;
 use whole::refusals;
+ghost use mathlib.Core.Bool.{true};
 ghost use mathlib.Core.Path.{_≡_};
 ghost use Prim.Native.Nat.{_-_, _≤_, _<_};
 ghost use lib.ListN.{length, take, drop};
@@ -65,7 +65,7 @@ fn value_line(
     }
 }
 
-// One line that its LF ends: "the lowest number that applies there".
+// One line that is sound: "the lowest number that applies there".
 pub fn line(
     text: &[u8],
     table: &mut [u32],
@@ -75,13 +75,11 @@ pub fn line(
     line: u32,
 ) -> Fed
     requires { ⌜ (place ≤ end) × (end ≤ length (now text)) × (length (now text) ≤ 32768) ⌝ }
+    requires { ⌜ Lines.sound (Lines.whole (take (end - place) (drop place (now text)))) ≡ true ⌝ }
     requires { ⌜ ((st : Automaton.State) × Filling.Tells (now text) counts (now table) st) ⌝ }
     ensures { λ r. ⌜ ((st : Automaton.State) → Filling.Tells (now (text .entry)) counts (now (table .entry)) st → Filling.TellsAfter (now (text .entry)) r (now (table .exit)) (Automaton.feed line st (Lines.whole (take (end - place) (drop place (now (text .entry))))))) ⌝ }
 {
     let content = &text[place..end];
-    if !lines::is_sound(content) {
-        return Fed::Refused(refusals::BROKEN_LINE);
-    }
     let key = counts.key;
     match keys::key_end(key, content) {
         ReadWord::Bad(_) => Fed::Refused(refusals::WRONG_KEY),

@@ -4,6 +4,7 @@ use crate::ClassCounts;
 use crate::Counts;
 use crate::Fed;
 use crate::Key;
+use crate::LineFound;
 use crate::MethodCounts;
 use crate::ModelCounts;
 use crate::Verdict;
@@ -93,13 +94,12 @@ pub fn read(text: &[u8], table: &mut [u32]) -> Verdict
     let mut place = 0;
     let mut line = 1;
     while place < text.len() {
-        let end = lines::line_end(text, place);
-        if end == text.len() {
+        let LineFound::Sound(end) = lines::sound_line(text, place) else {
             return Verdict {
                 number: refusals::BROKEN_LINE,
                 line,
             };
-        }
+        };
         match feeding::line(text, table, counts, place, end, line) {
             Fed::Refused(number) => return Verdict { number, line },
             Fed::Next(after) => counts = after,

@@ -81,6 +81,12 @@ pub enum Fed {
     Next(Counts),
 }
 
+// The end of a sound line, which is its LF's place; or the line is too long, has a byte outside, or has no LF.
+pub enum LineFound {
+    Sound(usize),
+    Broken,
+}
+
 // A value as a number within its range, or none: "its form, its range".
 pub enum NumberLine {
     Is(u32),

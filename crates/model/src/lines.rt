@@ -1,40 +1,43 @@
 // "lines of at most 120 bytes from 32 to 126, each ended by LF"
+use crate::LineFound;
 ghost use mathlib.Core.Path.{_≡_};
+ghost use Prim.Native.Nat.{_+_, min};
 ghost use Rattle.model.specs.Lines as Lines;
 
 const LONGEST_LINE: usize = 120;
 
-// The place of the first LF from a place on, or the end of the text; a place past the end is its own.
-pub fn line_end(text: &[u8], at: usize) -> usize
-    ensures { λ r. ⌜ r ≡ Lines.lineEnd (now (text .entry)) at ⌝ }
+// Where the search for a line's LF stops: behind its latest place, or at the end of the text.
+fn search_end(long: usize, at: usize) -> usize
+    ensures { λ r. ⌜ r ≡ min long (at + Lines.longestLine + 1) ⌝ }
 {
-    let mut i = at;
-    while i < text.len() {
-        if text[i] == b'\n' {
-            return i;
-        }
-        i += 1;
+    if long <= LONGEST_LINE {
+        return long;
     }
-    i
+    if at < long - LONGEST_LINE {
+        at + LONGEST_LINE + 1
+    } else {
+        long
+    }
 }
 
-// What a line that has its LF holds: "at most 120 bytes from 32 to 126".
-pub fn is_sound(line: &[u8]) -> bool
-    ensures { λ r. ⌜ r ≡ Lines.sound (Lines.whole (now (line .entry))) ⌝ }
+// The end of the line that begins at a place, found and tested in one pass.
+pub fn sound_line(text: &[u8], at: usize) -> LineFound
+    ensures { λ r. ⌜ r ≡ Lines.soundEnd (now (text .entry)) at ⌝ }
 {
-    if line.len() > LONGEST_LINE {
-        return false;
-    }
-    let mut i = 0;
-    while i < line.len() {
-        let b = line[i];
+    let stop = search_end(text.len(), at);
+    let mut i = at;
+    while i < stop {
+        let b = text[i];
         if b < 32 {
-            return false;
+            if b == b'\n' {
+                return LineFound::Sound(i);
+            }
+            return LineFound::Broken;
         }
         if b > 126 {
-            return false;
+            return LineFound::Broken;
         }
         i += 1;
     }
-    true
+    LineFound::Broken
 }
