@@ -4,6 +4,7 @@ pub mod Bytes
 mod Cases
 pub mod Digits
 pub mod Following
+pub mod Grouping
 pub mod Moving
 pub mod Nesting
 pub mod Onward

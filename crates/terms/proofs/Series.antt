@@ -52,13 +52,6 @@ module _ {O A B : Type 0} (operator : ℕ → Option O) (apply : O → B → A �
       pub counted-fail : (more : ℕ) → item (at + 1) ≡ bad p → repeated (joining operator apply s item) (suc more) at a ≡ bad p
       counted-fail more f = repeated-some (joining operator apply s item) more at a _ (step-bad f) ∙ next-of-bad p _
 
-      -- at most one more
-      pub once-go : (b : A) → item (at + 1) ≡ got p b → repeated (joining operator apply s item) 1 at a ≡ got p (apply o a b)
-      once-go b f = counted-go 0 b f ∙ (unfold repeated in refl)
-
-      pub once-fail : item (at + 1) ≡ bad p → repeated (joining operator apply s item) 1 at a ≡ bad p
-      once-fail f = counted-fail 0 f
-
       -- as many as there are
       module _ (m : Moves item) (z : operator 0 ≡ none) (h : at < length s) where
         pub joined-go : (b : A) → item (at + 1) ≡ got p b

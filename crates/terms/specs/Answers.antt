@@ -3,6 +3,7 @@ use Prim.Native.Nat.{ℕ}
 use mathlib.Core.Option.{Option, none, some}
 use Rattle.whole.specs.declared.Operator.{Operator}
 use Rattle.whole.specs.declared.Worked.{Worked}
+use Rattle.whole.specs.Whole.{applied}
 use Rattle.layout.specs.Layout.{Cells}
 use Rattle.terms.specs.declared.Here.{Here}
 use Rattle.terms.specs.declared.OperatorFound.{OperatorFound}
@@ -42,3 +43,13 @@ surroundings c h = record { cells = c; object = h .object .0; label = h .label .
 unfoldable pub asOperator : Option Operator → OperatorFound
 asOperator (some o) = Operator′.Is o
 asOperator none = Operator′.Nothing
+
+-- what was read so far and one item more, by the operator that was found between them. Before the first item there is none
+unfoldable pub groupedBy : OperatorFound → Worked → Worked → Worked
+groupedBy Operator′.Nothing a b = b
+groupedBy (Operator′.Is o) a b = applied o a b
+
+-- after an operator that was found there is no other
+unfoldable pub noOther : OperatorFound → Option Operator → Option Operator
+noOther Operator′.Nothing o = o
+noOther (Operator′.Is p) o = none

@@ -3,12 +3,11 @@ use Prim.Native.Char.{code}
 use Prim.Native.Nat.{ℕ}
 use lib.ListN.{length}
 use Rattle.whole.specs.declared.Worked.{Worked}
-use Rattle.whole.specs.Whole.{applied}
 use Rattle.layout.specs.Layout.{Cells}
 use Rattle.terms.specs.declared.Around.{Around}
 use Rattle.terms.specs.Answers.{surroundings}
 use Rattle.terms.specs.Bytes.{Text}
-use Rattle.terms.specs.Expressions.{comparison, sign, star, factor, product, sum, expression}
+use Rattle.terms.specs.Expressions.{factor, product, sum, expression}
 use Rattle.terms.specs.Guards.{ampersand, bar, atom, conjunction, guard}
 use Rattle.terms.specs.Parsed.{Parsed, opened, repeated, joining}
 use Rattle.terms.specs.Values.{values, guardValues, joined}
@@ -29,25 +28,16 @@ module _ (c : Cells) (a : Around) (s : Text) where
   abbrev pub nestedRead : ℕ → ℕ → Parsed Worked
   nestedRead = opened (code ")") s guardRead
 
-  -- the parts of an expression, and what is joined to a first factor, product or sum
+  -- the parts of an expression
   module _ (left : ℕ) where
     abbrev pub factorRead : ℕ → Parsed Worked
     factorRead = factor (values (surroundings c (a .here))) (a .limits) s (insideRead (code ")") left)
 
-    abbrev pub multipliedRead : ℕ → Worked → Parsed Worked
-    multipliedRead = repeated (joining star applied s factorRead) (length s)
-
     abbrev pub productRead : ℕ → Parsed Worked
     productRead = product (values (surroundings c (a .here))) (a .limits) s (insideRead (code ")") left)
 
-    abbrev pub summedRead : ℕ → Worked → Parsed Worked
-    summedRead = repeated (joining sign applied s productRead) (length s)
-
     abbrev pub sumRead : ℕ → Parsed Worked
     sumRead = sum (values (surroundings c (a .here))) (a .limits) s (insideRead (code ")") left)
-
-    abbrev pub comparedRead : ℕ → Worked → Parsed Worked
-    comparedRead = repeated (joining comparison applied s sumRead) 1
 
     -- the parts of a guard, and what is joined to a first atom or conjunction
     abbrev pub atomRead : ℕ → Parsed Worked

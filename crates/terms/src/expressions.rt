@@ -15,7 +15,7 @@ ghost use Prim.Native.Nat.{_<_};
 ghost use lib.IntN.{pos};
 ghost use lib.ListN.{length};
 ghost use Rattle.whole.specs.declared.Worked.the-variants.{Value};
-ghost use Rattle.terms.specs.Answers.{asValue, asOperator, surroundings};
+ghost use Rattle.terms.specs.Answers.{asValue, asOperator, groupedBy, noOther, surroundings};
 ghost use Rattle.terms.specs.Bytes.{bytes, byteAt};
 ghost use Rattle.terms.specs.Expressions as Expressions;
 ghost use Rattle.terms.specs.Leaves as Leaves;
@@ -66,6 +66,26 @@ fn comparison_at(s: &[u8], at: usize) -> OperatorFound
         Operator::Equal,
         leaves::byte_at(s, at),
     )
+}
+
+// The same after a sum, by the comparison before it: after one there is no other.
+fn comparison_after(by: OperatorFound, s: &[u8], at: usize) -> OperatorFound
+    ensures { λ r. ⌜ r ≡ asOperator (noOther by (Expressions.comparison (byteAt (now (s .entry)) at))) ⌝ }
+{
+    match by {
+        OperatorFound::Nothing => comparison_at(s, at),
+        OperatorFound::Is(_) => OperatorFound::Nothing,
+    }
+}
+
+// "grouped from the left": what was read so far and one item more, by the operator between them. Before the first item there is none.
+fn grouped(by: OperatorFound, a: Worked, b: Worked) -> Worked
+    ensures { λ r. ⌜ r ≡ groupedBy by a b ⌝ }
+{
+    match by {
+        OperatorFound::Nothing => b,
+        OperatorFound::Is(o) => whole::applied(o, a, b),
+    }
 }
 
 // What a factor begins with.
@@ -157,57 +177,24 @@ fn factor(s: &[u8], at: usize, cells: &[i32], around: Around, left: usize) -> Re
     }
 }
 
-// The factors after a first.
-fn multiplied(
-    s: &[u8],
-    at: usize,
-    a: Worked,
-    cells: &[i32],
-    around: Around,
-    left: usize,
-) -> ReadValue
-    ensures { λ r. ⌜ r ≡ asValue (Readers.multipliedRead (now (cells .entry)) around (now (s .entry)) left at a) ⌝ }
-{
-    let mut end = at;
-    let mut value = a;
-    while leaves::byte_at(s, end) == b'*' {
-        match factor(s, end + 1, cells, around, left) {
-            ReadValue::Bad(p) => return ReadValue::Bad(p),
-            ReadValue::Got(p, b) => {
-                value = whole::applied(Operator::Times, value, b);
-                end = p;
-            }
-        }
-    }
-    ReadValue::Got(end, value)
-}
-
 // "a product is factors joined by `*`"
 fn product(s: &[u8], at: usize, cells: &[i32], around: Around, left: usize) -> ReadValue
     ensures { λ r. ⌜ r ≡ asValue (Readers.productRead (now (cells .entry)) around (now (s .entry)) left at) ⌝ }
 {
-    match factor(s, at, cells, around, left) {
-        ReadValue::Bad(p) => ReadValue::Bad(p),
-        ReadValue::Got(p, a) => multiplied(s, p, a, cells, around, left),
-    }
-}
-
-// The products after a first.
-fn summed(s: &[u8], at: usize, a: Worked, cells: &[i32], around: Around, left: usize) -> ReadValue
-    ensures { λ r. ⌜ r ≡ asValue (Readers.summedRead (now (cells .entry)) around (now (s .entry)) left at a) ⌝ }
-{
-    let mut end = at;
-    let mut value = a;
+    let mut begin = at;
+    let mut value = Worked::Value(0);
+    let mut by = OperatorFound::Nothing;
     loop {
-        match sign_at(s, end) {
-            OperatorFound::Nothing => return ReadValue::Got(end, value),
-            OperatorFound::Is(o) => match product(s, end + 1, cells, around, left) {
-                ReadValue::Bad(p) => return ReadValue::Bad(p),
-                ReadValue::Got(p, b) => {
-                    value = whole::applied(o, value, b);
-                    end = p;
+        match factor(s, begin, cells, around, left) {
+            ReadValue::Bad(p) => return ReadValue::Bad(p),
+            ReadValue::Got(p, b) => {
+                value = grouped(by, value, b);
+                if leaves::byte_at(s, p) != b'*' {
+                    return ReadValue::Got(p, value);
                 }
-            },
+                by = OperatorFound::Is(Operator::Times);
+                begin = p + 1;
+            }
         }
     }
 }
@@ -216,22 +203,23 @@ fn summed(s: &[u8], at: usize, a: Worked, cells: &[i32], around: Around, left: u
 fn sum(s: &[u8], at: usize, cells: &[i32], around: Around, left: usize) -> ReadValue
     ensures { λ r. ⌜ r ≡ asValue (Readers.sumRead (now (cells .entry)) around (now (s .entry)) left at) ⌝ }
 {
-    match product(s, at, cells, around, left) {
-        ReadValue::Bad(p) => ReadValue::Bad(p),
-        ReadValue::Got(p, a) => summed(s, p, a, cells, around, left),
-    }
-}
-
-// The sum after a first, if there is one.
-fn compared(s: &[u8], at: usize, a: Worked, cells: &[i32], around: Around, left: usize) -> ReadValue
-    ensures { λ r. ⌜ r ≡ asValue (Readers.comparedRead (now (cells .entry)) around (now (s .entry)) left at a) ⌝ }
-{
-    match comparison_at(s, at) {
-        OperatorFound::Nothing => ReadValue::Got(at, a),
-        OperatorFound::Is(o) => match sum(s, at + 1, cells, around, left) {
-            ReadValue::Bad(p) => ReadValue::Bad(p),
-            ReadValue::Got(p, b) => ReadValue::Got(p, whole::applied(o, a, b)),
-        },
+    let mut begin = at;
+    let mut value = Worked::Value(0);
+    let mut by = OperatorFound::Nothing;
+    loop {
+        match product(s, begin, cells, around, left) {
+            ReadValue::Bad(p) => return ReadValue::Bad(p),
+            ReadValue::Got(p, b) => {
+                value = grouped(by, value, b);
+                match sign_at(s, p) {
+                    OperatorFound::Nothing => return ReadValue::Got(p, value),
+                    OperatorFound::Is(o) => {
+                        by = OperatorFound::Is(o);
+                        begin = p + 1;
+                    }
+                }
+            }
+        }
     }
 }
 
@@ -239,8 +227,22 @@ fn compared(s: &[u8], at: usize, a: Worked, cells: &[i32], around: Around, left:
 pub fn expression(s: &[u8], at: usize, cells: &[i32], around: Around, left: usize) -> ReadValue
     ensures { λ r. ⌜ r ≡ asValue (Readers.expressionRead (now (cells .entry)) around (now (s .entry)) left at) ⌝ }
 {
-    match sum(s, at, cells, around, left) {
-        ReadValue::Bad(p) => ReadValue::Bad(p),
-        ReadValue::Got(p, a) => compared(s, p, a, cells, around, left),
+    let mut begin = at;
+    let mut value = Worked::Value(0);
+    let mut by = OperatorFound::Nothing;
+    loop {
+        match sum(s, begin, cells, around, left) {
+            ReadValue::Bad(p) => return ReadValue::Bad(p),
+            ReadValue::Got(p, b) => {
+                value = grouped(by, value, b);
+                match comparison_after(by, s, p) {
+                    OperatorFound::Nothing => return ReadValue::Got(p, value),
+                    OperatorFound::Is(o) => {
+                        by = OperatorFound::Is(o);
+                        begin = p + 1;
+                    }
+                }
+            }
+        }
     }
 }
