@@ -1,6 +1,7 @@
 // "a wrong count of its arguments is 5 at its line, judged only in a text that passes otherwise"
 use crate::Verdict;
 use crate::filling;
+use crate::ranges;
 use crate::table;
 use whole::refusals;
 ghost use mathlib.Core.Path.{_≡_};
@@ -37,8 +38,8 @@ fn fits(table: &[u32], classes: u32, new: u32) -> bool
         return true;
     }
     let told = new - 1;
-    let given = given_to(table, classes, told % filling::CLASSES);
-    told / filling::CLASSES == given
+    let given = given_to(table, classes, told % ranges::MOST_CLASSES);
+    told / ranges::MOST_CLASSES == given
 }
 
 // Every `new` of a text that passes otherwise, in the order of its lines: the first that does not fit is refused.

@@ -3,6 +3,7 @@ use crate::CodeAt;
 use crate::Counts;
 use crate::Row;
 use crate::automaton;
+use crate::ranges;
 use crate::table;
 use code::NewFound;
 ghost use mathlib.Core.Path.{_≡_};
@@ -15,15 +16,12 @@ ghost use Rattle.model.specs.Creations as Creations;
 ghost use Rattle.model.specs.Filling as Filling;
 ghost use Rattle.model.specs.Table as Table;
 
-// Where the rows of methods and code lines begin, and how many methods a class may have.
-const FIRST_METHOD: usize = 16;
+// Where the rows of methods and of code lines begin: a row for each class stands before them, and one for each method of each class.
+const FIRST_METHOD: usize = ranges::MOST_CLASSES as usize;
 
-const METHODS: usize = 8;
+const METHODS: usize = ranges::MOST_METHODS as usize;
 
-pub const FIRST_CODE: usize = 144;
-
-// How many classes a `new` may name.
-pub const CLASSES: u32 = 16;
+pub const FIRST_CODE: usize = FIRST_METHOD + METHODS * FIRST_METHOD;
 
 // The number of the method's first code line among those of all methods.
 fn first_line(counts: Counts) -> u32
@@ -40,7 +38,7 @@ pub fn new_number(new: NewFound) -> u32
 {
     match new {
         NewFound::Nothing => 0,
-        NewFound::Is(class, count) => 1 + class + CLASSES * count as u32,
+        NewFound::Is(class, count) => 1 + class + ranges::MOST_CLASSES * count as u32,
     }
 }
 

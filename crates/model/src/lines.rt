@@ -39,5 +39,5 @@ pub fn sound_line(text: &[u8], at: usize) -> LineFound
         }
         i += 1;
     }
-    LineFound::Broken
+    LineFound::Broken // no LF: the line is too long, or the text has ended
 }

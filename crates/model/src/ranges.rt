@@ -7,11 +7,11 @@ ghost use Rattle.model.specs.Counts as Counting;
 
 const EDITION: u32 = 1;
 
-const MOST_CLASSES: u32 = 16;
+pub const MOST_CLASSES: u32 = 16;
 
 const MOST_ATTRIBUTES: u32 = 8;
 
-const MOST_METHODS: u32 = 8;
+pub const MOST_METHODS: u32 = 8;
 
 const MOST_PARAMS: u32 = 4;
 
