@@ -19,7 +19,7 @@ unfolding code-open Automaton.freshClass Automaton.freshMethod Automaton.freshMo
     Counts.isLast Counts.endsMethod Counts.mayStand Automaton.codeJoined Automaton.creationsJoined Automaton.lineJoined
     Automaton.stated Automaton.blockLine Automaton.limitsOf Automaton.codeLine Automaton.valueLine Automaton.feed Automaton.asFed
     Judge.givenTo Judge.countsJudged Judge.endJudged Judge.linesJudged Judge.judged Judge.verdictOf Judge.judge Creations.newNumber
-    Creations.creationTold Creations.creationsFrom Creations.newFits Keys.nameOf Keys.asked Lines.grown Lines.lines Lines.plainBytes
+    Creations.creationTold Creations.creationsFrom Creations.newFits Keys.nameOf Keys.asked Lines.grown Lines.lines Lines.plainByte Lines.plainBytes
     Lines.sound Lines.content Lines.firstEnd Lines.soundEnd Model.runs Model.takes Model.methodOf Model.bindsTo Numbers.numberIn
     Numbers.asNumberLine Table.rowOf Table.put Table.Rows
 model-open = tt

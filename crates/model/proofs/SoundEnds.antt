@@ -1,5 +1,5 @@
 -- The end of a sound line, byte by byte as the code goes through it, and what lines begin where it was looked for. Assumes nothing.
-use Prim.Native.Nat.{ℕ, suc, _+_, _-_, _≤_, _<_, min}
+use Prim.Native.Nat.{ℕ, zero, suc, _+_, _-_, _≤_, _<_, min}
 use mathlib.Core.Bool.{Bool, true, false, _&&_}
 use mathlib.Core.List.{List, [], _∷_}
 use mathlib.Core.Path.{_≡_, refl, sym, ap, subst, _∙_}
@@ -13,9 +13,9 @@ use lib.Seq.{drop-cons, drop-drop}
 use Rattle.terms.specs.Bytes.{Text, byteAt}
 use Rattle.model.specs.declared.LineFound.{LineFound}
 use Rattle.model.specs.declared.LineFound.the-variants as LineFound
-use Rattle.model.specs.Lines.{Line, whole, unended, grown, lines, lineFeed, longestLine, plainBytes, sound, content, firstEnd, soundEnd}
+use Rattle.model.specs.Lines.{Line, whole, unended, grown, lines, lineFeed, longestLine, plainByte, plainBytes, sound, content, firstEnd, soundEnd}
 use Rattle.model.proofs.Cutting.{lines-first, lines-later, grown-none, grown-whole, grown-unended, lines-some, cut-whole, line-none}
-use Rattle.model.proofs.Plain.{plain-first, low-first, high-first, both-false}
+use Rattle.model.proofs.Plain.{plain-first, outside-first, plain-unfed, first-plain, both-false}
 
 -- the end of a line that begins at a place, where its bytes before another place are plain: by the lines from there
 unfoldable pub endFrom : ℕ → ℕ → List Line → LineFound
@@ -68,22 +68,22 @@ module _ (at i : ℕ) where
   from-grown-outside b h (whole l ∷ ls) = ap (endFrom at i) (grown-whole b l ls) ∙ from-outside _ _ (h l)
   from-grown-outside b h (unended l ∷ ls) = ap (endFrom at i) (grown-unended b l ls) ∙ from-unended _ _
 
-  from-more : (b : ℕ) (l : Text) (ls : List Line) → 32 ≤ b → b ≤ 126 → endFrom at i (whole (b ∷ l) ∷ ls) ≡ endFrom at (i + 1) (whole l ∷ ls)
+  from-more : (b : ℕ) (l : Text) (ls : List Line) → plainByte b ≡ true → endFrom at i (whole (b ∷ l) ∷ ls) ≡ endFrom at (i + 1) (whole l ∷ ls)
   unfolding endFrom
-  from-more b l ls h k =
+  from-more b l ls h =
       let n : i + suc (length l) ≡ (i + 1) + length l = omega arith in
       let f : Bool → ℕ → LineFound = λ t m. elim (leb m (at + longestLine) && t) [ true ↦ LineFound.Sound m | false ↦ LineFound.Broken ] in
-      ap (λ t. f t (i + suc (length l))) (plain-first b l h k) ∙ ap (f (plainBytes l)) n
+      ap (λ t. f t (i + suc (length l))) (plain-first b l h) ∙ ap (f (plainBytes l)) n
 
-module _ (at i b : ℕ) (h : 32 ≤ b) (k : b ≤ 126) where
+module _ (at i b : ℕ) (h : plainByte b ≡ true) where
   from-grown : (ls : List Line) → endFrom at i (grown b ls) ≡ endFrom at (i + 1) ls
   from-grown [] = ap (endFrom at i) (grown-none b) ∙ from-unended at i _ _ ∙ sym (from-none at (i + 1))
-  from-grown (whole l ∷ ls) = ap (endFrom at i) (grown-whole b l ls) ∙ from-more at i b l ls h k
+  from-grown (whole l ∷ ls) = ap (endFrom at i) (grown-whole b l ls) ∙ from-more at i b l ls h
   from-grown (unended l ∷ ls) = ap (endFrom at i) (grown-unended b l ls) ∙ from-unended at i _ _ ∙ sym (from-unended at (i + 1) l ls)
 
 -- the same by the byte at a place of the text
 module _ (s : Text) (at : ℕ) where
-  pub end-begun : soundEnd s at ≡ endFrom at at (lines (drop at s))
+  end-begun : soundEnd s at ≡ endFrom at at (lines (drop at s))
   unfolding soundEnd
   end-begun = from-start at (lines (drop at s))
 
@@ -109,14 +109,26 @@ module _ (s : Text) (at : ℕ) where
       pub end-here : byteAt s i ≡ lineFeed → i ≤ at + longestLine → endFrom at i (lines (drop i s)) ≡ LineFound.Sound i
       end-here e h = rw (drop-cons s i 0 z, lines-first (byteAt s i) (drop (suc i) s) (eq-eqb _ _ e)) (from-feed at i h _)
 
-      pub end-low : byteAt s i < 32 → (byteAt s i ≡ lineFeed → ⊥) → endFrom at i (lines (drop i s)) ≡ LineFound.Broken
-      end-low h n = ap (endFrom at i) (lines-at n) ∙ from-grown-outside at i (byteAt s i) (λ t. low-first (byteAt s i) t h) _
+      pub end-outside : plainByte (byteAt s i) ≡ false → (byteAt s i ≡ lineFeed → ⊥) → endFrom at i (lines (drop i s)) ≡ LineFound.Broken
+      end-outside h n = ap (endFrom at i) (lines-at n) ∙ from-grown-outside at i (byteAt s i) (λ t. outside-first (byteAt s i) t h) _
 
-      pub end-high : 126 < byteAt s i → endFrom at i (lines (drop i s)) ≡ LineFound.Broken
-      end-high h = ap (endFrom at i) (lines-at (λ e. omega arith)) ∙ from-grown-outside at i (byteAt s i) (λ t. high-first (byteAt s i) t h) _
+      pub end-onward : plainByte (byteAt s i) ≡ true → endFrom at i (lines (drop i s)) ≡ endFrom at (i + 1) (lines (drop (i + 1) s))
+      end-onward h = ap (endFrom at i) (lines-at (plain-unfed (byteAt s i) h)) ∙ from-grown at i (byteAt s i) h _
 
-      pub end-onward : 32 ≤ byteAt s i → byteAt s i ≤ 126 → endFrom at i (lines (drop i s)) ≡ endFrom at (i + 1) (lines (drop (i + 1) s))
-      end-onward h k = ap (endFrom at i) (lines-at (λ e. omega arith)) ∙ from-grown at i (byteAt s i) h k _
+  -- past some plain bytes
+  end-past-plain : (n i : ℕ) → i + n ≤ length s → plainBytes (take n (drop i s)) ≡ true → endFrom at i (lines (drop i s)) ≡ endFrom at (i + n) (lines (drop (i + n) s))
+  end-past-plain zero i h e = ap (λ k. endFrom at k (lines (drop k s))) (sym (add-zero i))
+  end-past-plain (suc n) i h e =
+      let z : i < length s = omega arith in
+      let f = first-plain (byteAt s i) (take n (drop (suc i) s)) (rw (drop-cons s i 0 z) at e) in
+      let rest : plainBytes (take n (drop (i + 1) s)) ≡ true = rw (add-one i) (f .1) in
+      let k : (i + 1) + n ≡ i + suc n = omega arith in
+      end-onward i z (f .0) ∙ end-past-plain n (i + 1) (omega arith) rest ∙ ap (λ k. endFrom at k (lines (drop k s))) k
+
+  pub end-from-plain : (i : ℕ) → at ≤ i → i ≤ length s → plainBytes (take (i - at) (drop at s)) ≡ true → soundEnd s at ≡ endFrom at i (lines (drop i s))
+  end-from-plain i h k e =
+      let n : at + (i - at) ≡ i = omega arith in
+      end-begun ∙ end-past-plain (i - at) at (omega arith) e ∙ ap (λ k. endFrom at k (lines (drop k s))) n
 
 -- a sound line: where it ends, and the lines behind it
 pub record SoundLine (s : Text) (at end : ℕ) : Type 0 where

@@ -36,9 +36,12 @@ lines [] = []
 lines (b ∷ s) = elim (eqb b lineFeed) [ true ↦ whole [] ∷ lines s | false ↦ grown b (lines s) ]
 
 -- "bytes from 32 to 126"
+unfoldable pub plainByte : ℕ → Bool
+plainByte b = leb 32 b && leb b 126
+
 unfoldable pub plainBytes : Text → Bool
 plainBytes [] = true
-plainBytes (b ∷ s) = elim (leb 32 b && leb b 126) [ true ↦ plainBytes s | false ↦ false ]
+plainBytes (b ∷ s) = elim (plainByte b) [ true ↦ plainBytes s | false ↦ false ]
 
 unfoldable pub sound : Line → Bool
 sound (whole l) = leb (length l) longestLine && plainBytes l
