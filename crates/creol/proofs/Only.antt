@@ -1,5 +1,4 @@
 -- No second result fits: what an entry's own contract says, as it is read from the function, leaves one answer. Assumes nothing.
-use Prim.Native.Nat.{ℕ}
 use mathlib.Core.Path.{_≡_, sym, _∙_}
 use borrow.Fn.Kinds.{endedOf}
 use borrow.Fn.World.{ArgsD, ResD}

@@ -1,5 +1,5 @@
 -- The number and the line are told by the answer: nothing of a verdict is lost in it. Assumes nothing.
-use Prim.Native.Nat.{ℕ, _+_, _*_, _^_, _≤_, _<_}
+use Prim.Native.Nat.{_^_, _<_}
 use mathlib.Core.Path.{_≡_}
 use native.Mathlib.Omega.{arith}
 use Rattle.terms.specs.Bytes.{Text}

@@ -1,6 +1,6 @@
 -- What a code value makes of a state and of the table, by what the code read of it. Assumes nothing.
 use Prim.Native.Nat.{ℕ, _+_, _≤_, _<_}
-use mathlib.Core.Option.{Option, some}
+use mathlib.Core.Option.{some}
 use mathlib.Core.Path.{_≡_, refl, sym, ap, subst, _∙_}
 use native.Mathlib.Omega.{arith}
 use lib.ListN.{length, take, drop, length-take, length-drop}
@@ -20,7 +20,7 @@ use Rattle.code.specs.Reader.{statement}
 use Rattle.code.specs.Readers.{statementRead}
 use Rattle.code.specs.Statements.{Code}
 use Rattle.code.proofs.NewCounts.{new-class, new-count}
-use Rattle.code.proofs.Told.{Told, told-bad, told-got}
+use Rattle.code.proofs.Told.{told-bad, told-got}
 use Rattle.model.specs.declared.Counts.{Counts}
 use Rattle.model.specs.declared.Fed as Fed
 use Rattle.model.specs.declared.Fed.the-variants as Next

@@ -1,5 +1,4 @@
 -- The ends of ranges that hang on more than a count, and where a line may stand, by the tests that the code makes. Assumes nothing.
-use Prim.Native.Nat.{ℕ}
 use mathlib.Core.Bool.{true, false}
 use mathlib.Core.List.{List}
 use mathlib.Core.Path.{_≡_, refl}

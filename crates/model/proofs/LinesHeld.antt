@@ -1,9 +1,9 @@
 -- What the table tells after a line, as the code fills it. Assumes nothing.
 use Prim.Native.Nat.{ℕ, _+_, _≤_, _<_}
 use mathlib.Core.Bool.{Bool, true, false}
-use mathlib.Core.List.{List, []}
+use mathlib.Core.List.{List}
 use mathlib.Core.Option.{Option, none, some}
-use mathlib.Core.Path.{_≡_, refl, sym, ap, subst, _∙_}
+use mathlib.Core.Path.{_≡_, refl, ap, _∙_}
 use native.Mathlib.Omega.{arith}
 use borrow.Author.Tests.{eqb-true, leb-true}
 use lib.Dec.{leb, eqb}
@@ -25,11 +25,11 @@ use Rattle.model.specs.declared.Key.{Key}
 use Rattle.model.specs.declared.Key.the-variants as Key
 use Rattle.model.specs.Automaton.{State, modelCounted, classCounted, methodCounted, counted, limitsOf, numbered, numberLine, blockLine, stated, Fed, refused, fed, asFed}
 use Rattle.model.specs.Counts.{lowest, highest, isLast, endsMethod, mayStand, deepest}
-use Rattle.model.specs.Filling.{firstLine, thisLine, Ready, classPut, linePut, filledBy, Part, atStart, inClass, inMethod, inCode, partOf, PartHeld, Held, HeldAfter}
+use Rattle.model.specs.Filling.{Ready, classPut, linePut, filledBy, inCode, partOf, PartHeld, Held, HeldAfter}
 use Rattle.model.specs.Keys.{asked}
 use Rattle.model.specs.Numbers.{numberIn}
 use Rattle.model.specs.Table.{Table}
-use Rattle.model.proofs.CodeRows.{AtLine, at-line}
+use Rattle.model.proofs.CodeRows.{at-line}
 use Rattle.model.proofs.Keeping.{keep-number, keep-code}
 use Rattle.model.proofs.Parts.{Known, known-in}
 use Rattle.model.proofs.ReadBounds.{number-range}

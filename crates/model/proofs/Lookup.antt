@@ -1,10 +1,9 @@
 -- What parts above look up in the table of a text, without opening it: the counts of a class and of a method, and the bytes of a code line.
 -- Assumes nothing.
-use Prim.Native.Nat.{ℕ, _+_, _≤_, _<_}
+use Prim.Native.Nat.{ℕ, _+_, _≤_}
 use mathlib.Core.Option.{some}
 use mathlib.Core.Path.{_≡_, subst}
 use native.Mathlib.Nat.{zero-add}
-use native.Mathlib.Omega.{arith}
 use lib.ListN.{length, getElem?}
 use Rattle.terms.specs.Bytes.{Text}
 use Rattle.terms.specs.Parsed.{got}

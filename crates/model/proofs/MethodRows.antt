@@ -9,7 +9,6 @@ use lib.ListN.{length}
 use Rattle.terms.specs.Bytes.{Text}
 use Rattle.code.specs.Blocks.{Block}
 use Rattle.code.specs.Statements.{Code}
-use Rattle.model.specs.declared.Counts.{Counts}
 use Rattle.model.specs.declared.Key.the-variants as Key
 use Rattle.model.specs.declared.Row.{Row}
 use Rattle.model.specs.Automaton.{State, modelCounted, classCounted, methodCounted, counted, withModel, withClass, withMethod, methodJoined, codeJoined, creationsJoined, lineJoined, creationsOf, limitsOf}

@@ -19,11 +19,11 @@ use Rattle.model.specs.Automaton.{Creation, State, modelCounted, counted
 use Rattle.model.specs.Belonging.{ClassTold, Belongs}
 use Rattle.model.specs.Creations.{creationsIn}
 use Rattle.model.specs.Filling.{atEnd, partOf, whole, reached, PartHeld, Held, HeldAfter}
-use Rattle.model.specs.Judge.{Judged, refusal, model, givenTo, countsJudged, endJudged, linesJudged, judged, verdictOf, judge}
+use Rattle.model.specs.Judge.{refusal, model, givenTo, countsJudged, endJudged, linesJudged, judged, verdictOf, judge}
 use Rattle.model.specs.Keys.{asked}
 use Rattle.model.specs.Lines.{Line, sound, lines, longestText}
 use Rattle.model.specs.Model.{Model}
-use Rattle.model.specs.Table.{Table, Rows, size}
+use Rattle.model.specs.Table.{Table, Rows}
 use Rattle.model.proofs.CountsOfNew.{verdict-refusal}
 use Rattle.model.proofs.Keeping.{held-belongs}
 use Rattle.model.proofs.Parts.{Known, known-in}

@@ -15,7 +15,6 @@ use crate::lines;
 use crate::table;
 use whole::refusals;
 ghost use mathlib.Core.Path.{_≡_};
-ghost use Prim.Native.Nat.{_≤_};
 ghost use lib.ListN.{length};
 ghost use Rattle.terms.specs.Bytes.{Text};
 ghost use Rattle.model.specs.Automaton as Automaton;

@@ -1,7 +1,7 @@
 -- `creol::creol_judge` meets its contract. Assumes nothing.
 use Rattle.creol.specs.Packed.{packed}
 use borrow.Author.Needs.{needs}
-use mathlib.Core.Path.{_≡_, ap, _∙_}
+use mathlib.Core.Path.{ap, _∙_}
 use Rattle.creol.proofs.creol_judge.Statement.{statement}
 use Rattle.creol.proofs.creol_judge.Tie as tie
 

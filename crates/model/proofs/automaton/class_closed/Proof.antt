@@ -1,7 +1,7 @@
 -- `model::automaton::class_closed` meets its contract. Assumes nothing.
 use Rattle.model.proofs.Changes.{closed-next, closed-end}
 use borrow.Author.Needs.{needs}
-use mathlib.Core.Path.{_≡_, sym, ap, _∙_}
+use mathlib.Core.Path.{_∙_}
 use Rattle.model.proofs.automaton.class_closed.Statement.{statement}
 use Rattle.model.proofs.automaton.class_closed.Tie as tie
 

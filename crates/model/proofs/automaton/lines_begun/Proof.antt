@@ -1,7 +1,7 @@
 -- `model::automaton::lines_begun` meets its contract. Assumes nothing.
 use Rattle.model.proofs.Changes.{linesSet, lines-begun}
 use borrow.Author.Needs.{needs}
-use mathlib.Core.Path.{_≡_, sym, ap, _∙_}
+use mathlib.Core.Path.{ap, _∙_}
 use Rattle.model.specs.Counts.{ofMethod}
 use Rattle.model.specs.declared.Key.the-variants as Key
 use Rattle.model.proofs.automaton.lines_begun.Statement.{statement}

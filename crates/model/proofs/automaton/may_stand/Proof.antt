@@ -3,7 +3,7 @@ use Rattle.code.proofs.OpenBlocks.{packed-deep}
 use Rattle.model.proofs.Ends.{stands-last, stands-before}
 use borrow.Author.Needs.{needs}
 use lib.Dec.{ltb}
-use mathlib.Core.Path.{_≡_, sym, ap, _∙_}
+use mathlib.Core.Path.{sym, ap, _∙_}
 use Rattle.model.proofs.automaton.may_stand.Statement.{statement}
 use Rattle.model.proofs.automaton.may_stand.Tie as tie
 

@@ -2,7 +2,7 @@
 use Rattle.model.proofs.Changes.{method-later}
 use Rattle.model.specs.Automaton.{methodClosed}
 use borrow.Author.Needs.{needs}
-use mathlib.Core.Path.{_≡_, sym, ap, _∙_}
+use mathlib.Core.Path.{_∙_}
 use native.Mathlib.Omega.{arith}
 use Rattle.model.proofs.automaton.method_closed.Statement.{statement}
 use Rattle.model.proofs.automaton.method_closed.Tie as tie

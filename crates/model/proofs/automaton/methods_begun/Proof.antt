@@ -2,7 +2,7 @@
 use Rattle.model.proofs.Changes.{methods-begun}
 use Rattle.model.specs.Automaton.{numbered}
 use borrow.Author.Needs.{needs}
-use mathlib.Core.Path.{_≡_, sym, ap, _∙_}
+use mathlib.Core.Path.{_∙_}
 use native.Mathlib.Omega.{arith}
 use Rattle.model.proofs.automaton.methods_begun.Statement.{statement}
 use Rattle.model.proofs.automaton.methods_begun.Tie as tie

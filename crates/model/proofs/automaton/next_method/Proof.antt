@@ -2,7 +2,7 @@
 use Rattle.model.proofs.Changes.{next-comes, next-none}
 use Rattle.model.specs.Automaton.{counted}
 use borrow.Author.Needs.{needs}
-use mathlib.Core.Path.{_≡_, sym, ap, _∙_}
+use mathlib.Core.Path.{ap, _∙_}
 use Rattle.model.proofs.automaton.next_method.Statement.{statement}
 use Rattle.model.proofs.automaton.next_method.Tie as tie
 

@@ -2,7 +2,7 @@
 use Rattle.model.proofs.Changes.{number-creol, number-classes, number-class, number-attrs, number-given, number-run, number-method, number-params, number-locals, number-code, number-end, of-key}
 use Rattle.model.specs.declared.Key.the-variants as Key
 use borrow.Author.Needs.{needs}
-use mathlib.Core.Path.{_≡_, sym, ap, _∙_}
+use mathlib.Core.Path.{_∙_}
 use Rattle.model.proofs.automaton.numbered.Statement.{statement}
 use Rattle.model.proofs.automaton.numbered.Tie as tie
 

@@ -6,7 +6,7 @@ use Rattle.model.specs.Filling.{Ready}
 use borrow.Author.Needs.{needs}
 use denote.Ref.{now}
 use lib.ListN.{length, drop, length-take, length-drop}
-use mathlib.Core.Path.{_≡_, sym, ap, subst}
+use mathlib.Core.Path.{sym, subst}
 use native.Mathlib.Omega.{arith}
 use Rattle.model.proofs.code_lines.code_line.Statement.{statement}
 use Rattle.model.proofs.code_lines.code_line.Tie as tie

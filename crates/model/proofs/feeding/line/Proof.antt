@@ -10,7 +10,7 @@ use Rattle.terms.specs.Answers.{asWord}
 use Rattle.terms.specs.Parsed.{got, word}
 use borrow.Author.Needs.{needs}
 use denote.Ref.{now}
-use lib.ListN.{length, take, drop, length-take, length-drop}
+use lib.ListN.{take, drop, length-take, length-drop}
 use mathlib.Core.Path.{_≡_, sym, ap, subst, _∙_}
 use native.Mathlib.Omega.{arith}
 use Rattle.model.proofs.feeding.line.Statement.{statement}

@@ -4,7 +4,7 @@ use Rattle.model.proofs.ReadBounds.{number-range}
 use Rattle.model.specs.Automaton.{asFed}
 use Rattle.model.specs.Counts.{lowest, highest}
 use Rattle.model.specs.declared.Fed.the-variants as Fed
-use Rattle.model.specs.Numbers.{numberIn, asNumberLine}
+use Rattle.model.specs.Numbers.{numberIn}
 use denote.Ref.{now}
 use mathlib.Core.Option.{none, some}
 use Rattle.model.specs.Filling.{filledBy}

@@ -1,7 +1,7 @@
 -- `model::filling::put_class` meets its contract. Assumes nothing.
 use Rattle.model.proofs.Puts.{class-whole, class-open}
 use borrow.Author.Needs.{needs}
-use mathlib.Core.Path.{_≡_, sym, _∙_}
+use mathlib.Core.Path.{sym, _∙_}
 use Rattle.model.proofs.filling.put_class.Statement.{statement}
 use Rattle.model.proofs.filling.put_class.Tie as tie
 

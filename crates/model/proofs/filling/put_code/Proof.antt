@@ -1,10 +1,10 @@
 -- `model::filling::put_code` meets its contract. Assumes nothing.
 use Prim.Native.Nat.{_+_}
-use Rattle.model.specs.Filling.{firstLine, thisLine, codePut}
+use Rattle.model.specs.Filling.{thisLine, codePut}
 use Rattle.model.specs.Table.{put, codeRow}
 use borrow.Author.Needs.{needs}
 use denote.Ref.{now}
-use mathlib.Core.Path.{_≡_, ap, _∙_}
+use mathlib.Core.Path.{ap, _∙_}
 use native.Mathlib.Omega.{arith}
 use Rattle.model.proofs.filling.put_code.Statement.{statement}
 use Rattle.model.proofs.filling.put_code.Tie as tie

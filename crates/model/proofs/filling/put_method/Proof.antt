@@ -3,8 +3,7 @@ use Rattle.model.proofs.Puts.{method-whole, method-open}
 use Rattle.model.specs.Table.{put, methodRow}
 use borrow.Author.Needs.{needs}
 use denote.Ref.{now}
-use mathlib.Core.Path.{_≡_, sym, _∙_}
-use mathlib.Core.Path.{_≡_, sym, ap, _∙_}
+use mathlib.Core.Path.{sym, ap, _∙_}
 use Rattle.model.proofs.filling.put_method.Statement.{statement}
 use Rattle.model.proofs.filling.put_method.Tie as tie
 

@@ -1,5 +1,5 @@
 -- `model::ranges::highest_given` meets its contract. Assumes nothing.
-use mathlib.Core.Path.{_≡_, sym}
+use mathlib.Core.Path.{sym}
 use Rattle.model.proofs.Ends.{given-first, given-later}
 use Rattle.model.proofs.ranges.highest_given.Statement.{statement}
 use Rattle.model.proofs.ranges.highest_given.Tie as tie

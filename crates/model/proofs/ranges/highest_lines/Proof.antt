@@ -1,5 +1,4 @@
 -- `model::ranges::highest_lines` meets its contract. Assumes nothing.
-use mathlib.Core.Path.{_≡_, sym}
 use native.Mathlib.Omega.{arith}
 use Rattle.model.specs.Counts.{highestLines}
 use Rattle.model.proofs.ranges.highest_lines.Statement.{statement}

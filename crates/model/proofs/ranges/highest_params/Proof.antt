@@ -1,5 +1,5 @@
 -- `model::ranges::highest_params` meets its contract. Assumes nothing.
-use mathlib.Core.Path.{_≡_, sym}
+use mathlib.Core.Path.{sym}
 use Rattle.model.proofs.Ends.{params-not-run, params-later, params-run}
 use Rattle.model.proofs.ranges.highest_params.Statement.{statement}
 use Rattle.model.proofs.ranges.highest_params.Tie as tie

@@ -1,5 +1,5 @@
 -- `model::ranges::lowest_run` meets its contract. Assumes nothing.
-use mathlib.Core.Path.{_≡_, sym}
+use mathlib.Core.Path.{sym}
 use Rattle.model.proofs.Ends.{run-first, run-later}
 use Rattle.model.proofs.ranges.lowest_run.Statement.{statement}
 use Rattle.model.proofs.ranges.lowest_run.Tie as tie
