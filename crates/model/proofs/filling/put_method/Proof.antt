@@ -7,8 +7,6 @@ use mathlib.Core.Path.{sym, ap, _∙_}
 use Rattle.model.proofs.filling.put_method.Statement.{statement}
 use Rattle.model.proofs.filling.put_method.Tie as tie
 
--- `model::filling::put_method` meets its contract. Assumes nothing.
-
 is-last-requires : tie.Need-is-last-requires
 is-last-requires c κs = search needs
 
