@@ -187,24 +187,33 @@ fn gathered(
     requires { ⌜ a .count + more + 1 < 2 ^ 64 ⌝ }
     ensures { λ r. ⌜ r ≡ Answers.asList (Readers.gatheredRead (now (cells .entry)) around 0 (now (s .entry)) more at a) ⌝ }
 {
-    if more == 0 {
-        return ReadList {
-            end: ReadWord::Got(at),
-            arguments: a,
-        };
+    let mut end = at;
+    let mut list = a;
+    let mut left = more;
+    while left > 0 {
+        if leaves::byte_at(s, end) != b',' {
+            return ReadList {
+                end: ReadWord::Got(end),
+                arguments: list,
+            };
+        }
+        match expressions::expression(s, end + 1, cells, around, expressions::BRACKETS) {
+            ReadValue::Bad(p) => {
+                return ReadList {
+                    end: ReadWord::Bad(p),
+                    arguments: no_arguments(),
+                };
+            }
+            ReadValue::Got(p, w) => {
+                list = with_one(list, w);
+                end = p;
+                left -= 1;
+            }
+        }
     }
-    if leaves::byte_at(s, at) != b',' {
-        return ReadList {
-            end: ReadWord::Got(at),
-            arguments: a,
-        };
-    }
-    match expressions::expression(s, at + 1, cells, around, expressions::BRACKETS) {
-        ReadValue::Bad(p) => ReadList {
-            end: ReadWord::Bad(p),
-            arguments: no_arguments(),
-        },
-        ReadValue::Got(p, w) => gathered(s, p, more - 1, with_one(a, w), cells, around),
+    ReadList {
+        end: ReadWord::Got(end),
+        arguments: list,
     }
 }
 
