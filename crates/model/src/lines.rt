@@ -9,7 +9,7 @@ ghost use Rattle.model.specs.Lines as Lines;
 const LONGEST_LINE: usize = 120;
 
 // So many bytes are tested without a branch between them, which the compiler does at once.
-const GROUP: usize = 16;
+const GROUP: usize = 8;
 
 // "bytes from 32 to 126"
 fn is_plain(b: u8) -> bool
@@ -20,8 +20,8 @@ fn is_plain(b: u8) -> bool
 
 // Whether a group of bytes is plain.
 fn is_plain_group(text: &[u8], at: usize) -> bool
-    requires { ⌜ at + 16 ≤ length (now text) ⌝ }
-    ensures { λ r. ⌜ r ≡ Lines.plainBytes (take 16 (drop at (now (text .entry)))) ⌝ }
+    requires { ⌜ at + 8 ≤ length (now text) ⌝ }
+    ensures { λ r. ⌜ r ≡ Lines.plainBytes (take 8 (drop at (now (text .entry)))) ⌝ }
 {
     let mut plain = true;
     let mut i = 0;

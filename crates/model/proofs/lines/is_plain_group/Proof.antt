@@ -12,10 +12,10 @@ use Rattle.model.proofs.lines.is_plain_group.Statement.{statement}
 use Rattle.model.proofs.lines.is_plain_group.Tie as tie
 
 abbrev Inv-loop : tie.InvT-loop
-Inv-loop text at plain₀ i₀ plain i = (plain ≡ plainBytes (take i (drop at text))) × (i ≤ 16)
+Inv-loop text at plain₀ i₀ plain i = (plain ≡ plainBytes (take i (drop at text))) × (i ≤ 8)
 
 abbrev μ-loop : tie.MeasureT-loop
-μ-loop text at plain₀ i₀ plain i = 16 - i
+μ-loop text at plain₀ i₀ plain i = 8 - i
 
 loop-holds : tie.Need-loop-holds Inv-loop μ-loop
 loop-holds c = let a = c .before .args in (sym (plain-start (now (a .text)) (a .at)), omega arith)
@@ -45,7 +45,7 @@ loop-again c =
 returns : tie.Need-returns Inv-loop μ-loop
 returns c =
     let l = c .before .loop in
-    let n : l .i ≡ 16 = omega arith in
+    let n : l .i ≡ 8 = omega arith in
     l .inv .0 ∙ ap (λ i. plainBytes (take i (drop (c .before .before .before .args .at) (now (c .before .before .before .args .text))))) n
 
 pub is-plain-group-spec : {M : Type 1} → statement M

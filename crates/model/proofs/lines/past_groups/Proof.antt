@@ -40,7 +40,7 @@ loop-again c =
     let l = c .before .before .before .loop in
     let a = c .before .before .before .before .before .args in
     let g = sym (c .before .is-plain-group .ensures) ∙ not-false _ (c .if1 .left) in
-    (omega arith, omega arith, l .inv .2, plain-past (now (a .text)) (a .at) (l .i) 16 (l .inv .0) (l .inv .3) g)
+    (omega arith, omega arith, l .inv .2, plain-past (now (a .text)) (a .at) (l .i) 8 (l .inv .0) (l .inv .3) g)
 
 returns-2 : tie.Need-returns-2 Inv-loop μ-loop
 returns-2 c = let i = c .before .loop .inv in ((i .0, i .1), i .3)
