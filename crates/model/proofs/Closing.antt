@@ -20,6 +20,7 @@ use Rattle.model.specs.Filling.{classPut, partOf, whole, reached, PartHe
 use Rattle.model.specs.Model.{Class}
 use Rattle.model.specs.Table.{Table, put, classRow, size, Rows}
 use Rattle.model.proofs.Framing.{Same, same-class, methods-kept, classes-kept, news-kept}
+use Rattle.model.proofs.Puts.{class-whole, class-open}
 use Rattle.model.proofs.TableRows.{put-length, row-own, append-length, rows-append}
 
 -- what is known after `methods=` and after each method: the class's methods so far are told, and all code lines are
@@ -33,17 +34,6 @@ pub record Between (s : Text) (t : Table) (st : State) : Type 0 where
   pub read : length (st .class .done) ≤ st .class .methods
   pub most : st .class .methods ≤ mostMethods
   pub methods : Rows (MethodTold s (st .model .classes) t (st .model .total) (st .class .attrs) (length (st .model .done))) 0 (st .class .done)
-
--- the row of a class is put where a class more was read, and no row elsewhere
-module _ (before after : Counts) (t : Table) where
-  pub no-class-put : after .model .read ≤ before .model .read → classPut before after t ≡ t
-  unfolding classPut
-  no-class-put h = rw (le-ltb _ _ h, classPut) refl
-
-  class-put : before .model .read < after .model .read
-      → classPut before after t ≡ put t (classRow (before .model .read)) (record { 0 = after .class .attrs; 1 = after .class .given; 2 = after .class .run; 3 = after .class .read })
-  unfolding classPut
-  class-put h = rw (lt-ltb _ _ h, classPut) refl
 
 -- the class being read, and its row
 wholeClass : State → Class
@@ -159,13 +149,13 @@ module _ (s : Text) (t : Table) (st : State) (b : Between s t st) where
   closed-put before key e =
       let after = counted (withModel st key (classJoined st)) in
       let more = one-class-more st in
-      class-put before after t (omega (arith, e, more))
+      class-whole before after t (omega (arith, e, more))
       ∙ ap (λ i. put t (classRow i) (wholeRow st)) e
 
   open-put : (before : Counts) → before .model .read ≡ length (st .model .done)
       → classPut before (counted (withClass st Key.Method (st .class))) t ≡ t
   unfolding counted modelCounted withClass
-  open-put before e = no-class-put before (counted (withClass st Key.Method (st .class))) t (omega (arith, e))
+  open-put before e = class-open before (counted (withClass st Key.Method (st .class))) t (omega (arith, e))
 
   -- what comes after `methods=` and after each method is told
   pub next-held : (before : Counts) → before .model .read ≡ length (st .model .done)

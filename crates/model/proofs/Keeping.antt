@@ -22,10 +22,11 @@ use Rattle.model.specs.Creations.{creationsFrom, creationsIn}
 use Rattle.model.specs.Filling.{classPut, methodPut, linePut, partOf, whole, reached, atStart, inClass, inMethod, inCode, atEnd, PartHeld, Held, firstLine, thisLine}
 use Rattle.model.specs.Table.{Table, size, Rows}
 use Rattle.model.proofs.Changes.{stated-last, stated-before}
-use Rattle.model.proofs.Closing.{Between, no-class-put, next-held}
+use Rattle.model.proofs.Closing.{Between, next-held}
 use Rattle.model.proofs.CodeRows.{AtLine, Lined, at-line, lined, lineTable}
 use Rattle.model.proofs.Framing.{same-self, classes-kept}
-use Rattle.model.proofs.MethodRows.{no-method-put, method-between}
+use Rattle.model.proofs.MethodRows.{method-between}
+use Rattle.model.proofs.Puts.{class-open, method-open}
 use Rattle.model.proofs.Parts.{Known, known-in, held-in}
 use Rattle.model.proofs.TableRows.{append-length}
 
@@ -33,7 +34,7 @@ use Rattle.model.proofs.TableRows.{append-length}
 quiet : (s : Text) (t : Table) (st after : State) → length (after .model .done) ≤ length (st .model .done) → Held s t after (counted after)
     → Held s (classPut (counted st) (counted after) t) after (counted after)
 unfolding counted modelCounted
-quiet s t st after l h = rw (no-class-put (counted st) (counted after) t l) h
+quiet s t st after l h = rw (class-open (counted st) (counted after) t l) h
 
 -- nothing is told at first
 pub begin-held : (s : Text) (t : Table) → length t ≡ size → Held s t begin (counted begin)
@@ -207,7 +208,7 @@ module _ (s : Text) (t : Table) (st : State) (at : ℕ) (c : Code) (bs : List Bl
           → (let after = stated at st c bs in Held s (classPut (counted st) (counted after) (methodPut (counted st) u)) after (counted after))
       go true e = rw (sym (stated-last (counted st) st refl at c bs e)) (keep-last u b d e)
       go false e =
-          rw (sym (stated-before (counted st) st refl at c bs e), no-method-put st u e)
+          rw (sym (stated-before (counted st) st refl at c bs e), method-open (counted st) u e)
           (quiet s u st (lineJoined at st c bs) classes-same (keep-line k u b d e h))
 
 -- a code line whose value is a statement

@@ -1,6 +1,6 @@
 -- The row of a method, put at its last line. Assumes nothing.
 use Prim.Native.Nat.{ℕ, _+_, _*_}
-use mathlib.Core.Bool.{true, false}
+use mathlib.Core.Bool.{true}
 use mathlib.Core.List.{List, [], _∷_, _++_}
 use mathlib.Core.Path.{_≡_, refl, sym, ap, _∙_}
 use native.Mathlib.Nat.{zero-add}
@@ -21,6 +21,7 @@ use Rattle.model.specs.Table.{Table, put, methodRow, size, Rows}
 use Rattle.model.proofs.Closing.{Between}
 use Rattle.model.proofs.CodeRows.{AtLine, Lined}
 use Rattle.model.proofs.Framing.{Same, same-method, lines-kept, methods-kept, classes-kept, news-kept}
+use Rattle.model.proofs.Puts.{method-whole}
 use Rattle.model.proofs.TableRows.{put-length, row-own, append-length, rows-append}
 
 -- the method being read with its last line, its row, and the table with it
@@ -33,15 +34,10 @@ wholeRow st = let m = st .method in record { 0 = m .params; 1 = m .locals; 2 = m
 methodTable : State → Table → Table
 methodTable st t = put t (methodRow (length (st .model .done)) (length (st .class .done))) (wholeRow st)
 
--- the row of the method is put at its last line, and no row elsewhere
-module _ (st : State) (t : Table) where
-  pub no-method-put : isLast (counted st) ≡ false → methodPut (counted st) t ≡ t
-  unfolding methodPut
-  no-method-put e = rw (e, methodPut) refl
-
-  method-put : isLast (counted st) ≡ true → methodPut (counted st) t ≡ methodTable st t
-  unfolding methodPut methodTable wholeRow counted modelCounted classCounted methodCounted
-  method-put e = rw (e, methodPut) refl
+-- the row of the method is put at its last line
+method-put : (st : State) (t : Table) → isLast (counted st) ≡ true → methodPut (counted st) t ≡ methodTable st t
+unfolding methodTable wholeRow counted modelCounted classCounted methodCounted
+method-put st t e = method-whole (counted st) t e
 
 module _ (s : Text) (t : Table) (st : State) (at : ℕ) (c : Code) (b : AtLine st) (d : Lined s t st at c) (last : length (st .method .done) + 1 ≡ st .method .lines) where
   -- the other rows are as they were
