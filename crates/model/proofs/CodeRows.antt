@@ -45,7 +45,7 @@ pub record Lined (s : Text) (t : Table) (st : State) (at : ℕ) (c : Code) : Typ
   pub classes : Rows (ClassTold s (st .model .classes) t (firstLine (counted st))) 0 (st .model .done)
   pub methods : Rows (MethodTold s (st .model .classes) t (firstLine (counted st)) (st .class .attrs) (length (st .model .done))) 0 (st .class .done)
   pub creations : st .model .creations ++ creationsOf at c ≡ creationsIn t (thisLine (counted st) + 1)
-  pub lines : (f : ℕ) → Rows (CodeTold s (st .model .classes) t f (limitsOf st)) (firstLine (counted st)) (st .method .done ++ (c ∷ []))
+  pub lines : Rows (CodeTold s (st .model .classes) t (limitsOf st)) (firstLine (counted st)) (st .method .done ++ (c ∷ []))
 
 -- the table with the row of the line
 unfoldable pub lineTable : State → ℕ → ℕ → ℕ → Code → Table → Table
@@ -89,16 +89,16 @@ module _ (s : Text) (t : Table) (st : State) (at place long : ℕ) (c : Code) (k
         rw (in-more u i, line-row, creation-told at c class-below, news-kept t u 16 128 i table-same i (omega arith))
         (ap (λ cs. cs ++ creationsOf at c) (k .creations))
 
-    line-told : (f : ℕ) → CodeTold s (st .model .classes) (lineTable st at place long c t) f (limitsOf st) (thisLine (counted st)) c
+    line-told : CodeTold s (st .model .classes) (lineTable st at place long c t) (limitsOf st) (thisLine (counted st)) c
     unfolding CodeTold valueIn
-    line-told f = rw line-row (fits, e)
+    line-told = rw line-row (fits, e)
 
-    table-lines : (f : ℕ) → Rows (CodeTold s (st .model .classes) (lineTable st at place long c t) f (limitsOf st)) (firstLine (counted st)) (st .method .done ++ (c ∷ []))
+    table-lines : Rows (CodeTold s (st .model .classes) (lineTable st at place long c t) (limitsOf st)) (firstLine (counted st)) (st .method .done ++ (c ∷ []))
     unfolding PartHeld counted modelCounted
-    table-lines f =
+    table-lines =
         rows-append _ (firstLine (counted st)) (st .method .done) c
-        (lines-kept s (st .model .classes) t (lineTable st at place long c t) _ f 16 128 _ (limitsOf st) (firstLine (counted st)) (st .method .done) table-same (omega arith) (k .part .8))
-        (rw (sym (b .this)) (line-told f))
+        (lines-kept s (st .model .classes) t (lineTable st at place long c t) 16 128 _ (limitsOf st) (firstLine (counted st)) (st .method .done) table-same (omega arith) (k .part .8))
+        (rw (sym (b .this)) line-told)
 
     pub lined : Lined s (lineTable st at place long c t) st at c
     lined = record { all = table-length; classes = table-classes; methods = table-methods; creations = table-creations; lines = table-lines }

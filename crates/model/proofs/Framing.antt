@@ -47,16 +47,18 @@ module _ (t : Table) (x : Row) (k m l : ℕ) where
     line = λ i g. row-other t (codeRow at) x (codeRow i) (λ e. omega arith);
   }
 
--- what is told of a text by a table is told by another that has the same rows, also where it tells more code lines
-module _ (s : Text) (all : ℕ) (t u : Table) (f g : ℕ) where
-  line-kept : (lim : Limits) (i : ℕ) (c : Code) → rowOf u (codeRow i) ≡ rowOf t (codeRow i) → CodeTold s all t f lim i c → CodeTold s all u g lim i c
+-- what is told of a text by a table is told by another that has the same rows
+module _ (s : Text) (all : ℕ) (t u : Table) where
+  line-kept : (lim : Limits) (i : ℕ) (c : Code) → rowOf u (codeRow i) ≡ rowOf t (codeRow i) → CodeTold s all t lim i c → CodeTold s all u lim i c
   unfolding CodeTold
   line-kept lim i c e h = rw e h
 
   pub lines-kept : (k m l : ℕ) (lim : Limits) (first : ℕ) (cs : List Code) → Same t u k m l → first + length cs ≤ l
-      → Rows (CodeTold s all t f lim) first cs → Rows (CodeTold s all u g lim) first cs
+      → Rows (CodeTold s all t lim) first cs → Rows (CodeTold s all u lim) first cs
   lines-kept k m l lim first cs a b = rows-keep _ _ first cs (λ i c h j. line-kept lim i c (a .line i (omega arith)))
 
+-- also where it tells more code lines
+module _ (s : Text) (all : ℕ) (t u : Table) (f g : ℕ) where
   method-kept : (k m l : ℕ) (attrs class j : ℕ) (o : Method) → Same t u k m l → f ≤ l → f ≤ g → 8 * class + j < m
       → MethodTold s all t f attrs class j o → MethodTold s all u g attrs class j o
   unfolding MethodTold
@@ -64,7 +66,7 @@ module _ (s : Text) (all : ℕ) (t u : Table) (f g : ℕ) where
       let r = rowOf t (methodRow class j) in
       let lim : Limits = record { attrs = attrs; locals = o .locals } in
       rw (a .method class j d)
-      (h .0, h .1, h .2, omega arith, lines-kept k m l lim (r .3) (o .code) a (omega arith) (h .4))
+      (h .0, h .1, h .2, omega arith, lines-kept s all t u k m l lim (r .3) (o .code) a (omega arith) (h .4))
 
   pub methods-kept : (k m l : ℕ) (attrs class : ℕ) (os : List Method) → Same t u k m l → f ≤ l → f ≤ g → 8 * class + length os ≤ m
       → Rows (MethodTold s all t f attrs class) 0 os → Rows (MethodTold s all u g attrs class) 0 os

@@ -179,7 +179,7 @@ module _ (s : Text) (t : Table) (st : State) (at : ℕ) (c : Code) (bs : List Bl
         lines = k .lines;
         told = d .classes;
         creations = d .creations ∙ ap (creationsIn u) (omega (arith, more));
-        part = (k .part .0, k .part .1, k .part .2, d .methods, next, k .part .5, k .part .6, h, d .lines _);
+        part = (k .part .0, k .part .1, k .part .2, d .methods, next, k .part .5, k .part .6, h, d .lines);
       })
 
   -- it makes no class whole by itself

@@ -68,7 +68,7 @@ module _ (s : Text) (t : Table) (m : Model) (b : Belongs s t m) (k : ℕ) (c : C
 
     -- a code line of the method
     module _ (i : ℕ) (st : Code) (g : getElem? (o .code) i ≡ some st) where
-      line-told : CodeTold s (length m) t allLines (record { attrs = c .attrs; locals = o .locals }) (rowOf t (methodRow k j) .3 + i) st
+      line-told : CodeTold s (length m) t (record { attrs = c .attrs; locals = o .locals }) (rowOf t (methodRow k j) .3 + i) st
       unfolding MethodTold
       line-told = rows-at _ (rowOf t (methodRow k j) .3) (o .code) i st (method-told .4) g
 

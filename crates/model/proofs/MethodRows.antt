@@ -60,8 +60,8 @@ module _ (s : Text) (t : Table) (st : State) (at : ℕ) (c : Code) (b : AtLine s
         refl,
         sym lines-all,
         omega (arith, lines-all),
-        lines-kept s (st .model .classes) t (methodTable st t) (st .model .total) (st .model .total) _ _ _ (limitsOf st) (firstLine (counted st)) (st .method .done ++ (c ∷ [])) rows-stay
-            (omega (arith, lines-all)) (d .lines (st .model .total)),
+        lines-kept s (st .model .classes) t (methodTable st t) _ _ _ (limitsOf st) (firstLine (counted st)) (st .method .done ++ (c ∷ [])) rows-stay
+            (omega (arith, lines-all)) (d .lines),
       )
 
   -- what is known when the method has joined its class

@@ -17,20 +17,22 @@ use Rattle.model.specs.Table.{Table, rowOf, classRow, methodRow, codeRow
 unfoldable pub valueIn : Text → Row → Text
 valueIn s r = take (r .1) (drop (r .0) s)
 
--- a text, how many classes it has, its table, and how many code lines the table tells
-module _ (s : Text) (classes : ℕ) (t : Table) (filled : ℕ) where
+-- a text, how many classes it has, and its table
+module _ (s : Text) (classes : ℕ) (t : Table) where
   -- a code line: what its row leads to in the text is this statement
   unfoldable pub CodeTold : Limits → ℕ → Code → Type 0
   CodeTold lim i c =
       let r = rowOf t (codeRow i) in
       (r .0 + r .1 ≤ length s) × (statement trees guardTrees lim classes (valueIn s r) ≡ got (r .1) c)
 
+-- the same, and how many code lines the table tells
+module _ (s : Text) (classes : ℕ) (t : Table) (filled : ℕ) where
   -- a method: its counts, and the number of its first code line
   unfoldable pub MethodTold : ℕ → ℕ → ℕ → Method → Type 0
   MethodTold attrs k j m =
       let r = rowOf t (methodRow k j) in
       (r .0 ≡ m .params) × (r .1 ≡ m .locals) × (r .2 ≡ length (m .code)) × (r .3 + length (m .code) ≤ filled)
-      × Rows (CodeTold (record { attrs = attrs; locals = m .locals })) (r .3) (m .code)
+      × Rows (CodeTold s classes t (record { attrs = attrs; locals = m .locals })) (r .3) (m .code)
 
   -- a class: its counts, and its methods
   unfoldable pub ClassTold : ℕ → Class → Type 0

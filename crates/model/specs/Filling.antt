@@ -109,7 +109,7 @@ PartHeld inCode s t st c =
     (c .model .read < c .model .classes) × (c .class .read < c .class .methods) × (c .class .methods ≤ mostMethods)
     × Rows (MethodTold s (c .model .classes) t (firstLine c) (c .class .attrs) (c .model .read)) 0 (st .class .done)
     × (c .method .read < c .method .lines) × (c .method .lines ≤ mostLines) × (c .method .lines ≤ c .model .total) × (length (st .method .blocks) ≤ deepest)
-    × Rows (CodeTold s (c .model .classes) t (thisLine c) (limitsOf st)) (firstLine c) (st .method .done)
+    × Rows (CodeTold s (c .model .classes) t (limitsOf st)) (firstLine c) (st .method .done)
 PartHeld atEnd s t st c = c .model .read ≡ c .model .classes
 
 -- what is known of a state by its table
