@@ -7,7 +7,7 @@ use mathlib.Core.Path.{refl}
 use lib.IntN.{pos, negsuc}
 use lib.ListN.{replicate, take, drop}
 use Rattle.whole.proofs.Tables.{Row, _is_, Holds}
-use Rattle.layout.specs.Layout.{Cells, size, firstCall, callCells, objectRows, callRows, write, objects, calls, toObject, toCall, newObject, newCall, class, runningLabel, attribute, stage, caller, callee, method, args, line, cleared, value, local}
+use Rattle.layout.specs.Layout.{Cells, allCells, firstCall, callCells, objectRows, callRows, write, objects, calls, toObject, toCall, newObject, newCall, class, runningLabel, attribute, stage, caller, callee, method, args, line, cleared, value, local}
 use Rattle.layout.specs.Stages.{invoked, queued, bound, running, answered, replied, taken, nobody}
 use Rattle.terms.specs.Bytes.{Text}
 use Rattle.model.specs.Judge.{judged, refusal, model}
@@ -25,7 +25,7 @@ good c = isConfiguration (modelOf four-classes) c
 
 -- cells with counts and no row written: each object in use is an idle one of class 0
 counting : ℕ → ℕ → Cells
-counting n l = write (write (replicate size (pos 0)) objects (pos n)) calls (pos l)
+counting n l = write (write (replicate allCells (pos 0)) objects (pos n)) calls (pos l)
 
 -- the objects of the base: two of class 0, then one of class 1, and two of class 2
 abbrev busy : ℕ

@@ -8,13 +8,13 @@ use lib.IntN.{ℤ, pos}
 use lib.ListN.{take, drop}
 use Rattle.whole.specs.Plain.{all, allTo, allBelow, whenever}
 use Rattle.whole.specs.Whole.{between, eqZ, nat}
-use Rattle.layout.specs.Layout.{Cells, size, firstCall, objectRows, callRows, attributes, locals, object, call, cellOf, read, objects, calls, ofObject, ofCall, runningLabel, attribute, stage, caller, callee, method, args, line, cleared, value, local}
+use Rattle.layout.specs.Layout.{Cells, allCells, firstCall, objectRows, callRows, mostAttributes, mostLocals, object, call, cellOf, read, objects, calls, ofObject, ofCall, runningLabel, attribute, stage, caller, callee, method, args, line, cleared, value, local}
 use Rattle.layout.specs.Stages.{invoked, bound, running, answered, taken, nobody, labelOf, inStage}
 use Rattle.code.specs.Statements.{Code}
 use Rattle.code.specs.declared.Shape.the-variants as Shape
 use Rattle.code.specs.Blocks.{shapeOf, isShape}
 use Rattle.model.specs.Model.{Model, runs}
-use Rattle.model.specs.Counts.{mostParams}
+use Rattle.model.specs.Bounds.{mostParams}
 use Rattle.code.specs.Reader.{lastMethod}
 use Rattle.cells.specs.Standing.{classOf, bodyOf, statementOf}
 
@@ -46,7 +46,7 @@ module _ (m : Model) (c : Cells) where
   unfoldable pub objectHolds : ℕ → Bool
   objectHolds o = elim (classOf m c o) [
     | none ↦ false
-    | some k ↦ zeroFrom attributes (k .attrs) (λ i. ofObject c o (attribute i)) && runningNamed o
+    | some k ↦ zeroFrom mostAttributes (k .attrs) (λ i. ofObject c o (attribute i)) && runningNamed o
   ]
 
   -- a call's stage is in a range
@@ -70,7 +70,7 @@ module _ (m : Model) (c : Cells) where
   unfoldable pub unboundHolds : ℕ → Bool
   unboundHolds l = all (
       between (pos 0) (pos mostParams) (ofCall c l args)
-      ∷ zeroFrom locals (nat (ofCall c l args)) (λ i. ofCall c l (local i))
+      ∷ zeroFrom mostLocals (nat (ofCall c l args)) (λ i. ofCall c l (local i))
       ∷ is (ofCall c l line) 0
       -- "Cleared .. is 1 only in stages 3 and 4": here it is 0
       ∷ is (ofCall c l cleared) 0
@@ -89,7 +89,7 @@ module _ (m : Model) (c : Cells) where
   unfoldable pub boundHolds : ℕ → Bool
   boundHolds l = elim (bodyOf m c l) [
     | none ↦ false
-    | some b ↦ zeroFrom locals (b .locals) (λ i. ofCall c l (local i)) && (elim (statementOf m c l) [
+    | some b ↦ zeroFrom mostLocals (b .locals) (λ i. ofCall c l (local i)) && (elim (statementOf m c l) [
       | none ↦ false
       | some s ↦ lineHolds l s
     ])
@@ -118,7 +118,7 @@ module _ (m : Model) (c : Cells) where
   unfoldable pub unusedHold : Bool
   unusedHold =
       zeroBetween (cellOf (object (nat (read c objects) + 1) 0)) firstCall c
-      && zeroBetween (cellOf (call (nat (read c calls) + 1) 0)) size c
+      && zeroBetween (cellOf (call (nat (read c calls) + 1) 0)) allCells c
 
   -- "objects 1..32, calls 1..128": each row in use holds, and every other is unused
   unfoldable pub isConfiguration : Bool

@@ -4,7 +4,7 @@ use mathlib.Core.List.{List, [], _∷_}
 use mathlib.Core.Path.{refl}
 use Rattle.whole.proofs.Tables.{Row, _is_, Holds}
 use Rattle.terms.specs.Bytes.{Text, bytes}
-use Rattle.terms.specs.Nothing.{nothing, guardNothing}
+use Rattle.terms.specs.Vocabulary.Nothing.{nothing, guardNothing}
 use Rattle.terms.specs.Parsed.{Parsed, got, bad, mapped}
 use Rattle.code.specs.declared.Shape.{Shape}
 use Rattle.code.specs.declared.Shape.the-variants as Shape

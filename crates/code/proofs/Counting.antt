@@ -9,45 +9,45 @@ use native.Mathlib.Omega.{arith}
 use lib.ListN.{length}
 use Rattle.code.specs.declared.Shape.{Shape}
 use Rattle.code.specs.Blocks.{Block, opening, closing, with}
-use Rattle.code.specs.Counting.{present, counted, onward, backward}
+use Rattle.code.specs.Vocabulary.Counting.{present, countedOn, onward, backward}
 use Rattle.code.proofs.Stacks.{no-some, false-true}
 
-falls : (n : ℕ) → counted true false (suc n) ≡ some n
-unfolding counted
+falls : (n : ℕ) → countedOn true false (suc n) ≡ some n
+unfolding countedOn
 falls n = refl
 
 -- the count after a line that leaves a block or not and enters one or not
 module _ (exits enters : Bool) (n : ℕ) where
-  pub counted-out : exits ≡ true → n ≡ 0 → counted exits enters n ≡ none
+  pub counted-out : exits ≡ true → n ≡ 0 → countedOn exits enters n ≡ none
   counted-out e z = rw (e, z) (go enters)
     where
-      go : (b : Bool) → counted true b 0 ≡ none
-      go true = unfold counted in refl
-      go false = unfold counted in refl
+      go : (b : Bool) → countedOn true b 0 ≡ none
+      go true = unfold countedOn in refl
+      go false = unfold countedOn in refl
 
-  pub counted-across : exits ≡ true → enters ≡ true → (n ≡ 0 → ⊥) → counted exits enters n ≡ some n
+  pub counted-across : exits ≡ true → enters ≡ true → (n ≡ 0 → ⊥) → countedOn exits enters n ≡ some n
   counted-across e f z = rw (e, f) (go n z)
     where
-      go : (m : ℕ) → (m ≡ 0 → ⊥) → counted true true m ≡ some m
+      go : (m : ℕ) → (m ≡ 0 → ⊥) → countedOn true true m ≡ some m
       go zero z = absurd (z refl)
-      go (suc m) z = unfold counted in ap some (add-one m)
+      go (suc m) z = unfold countedOn in ap some (add-one m)
 
-  pub counted-down : exits ≡ true → enters ≡ false → (n ≡ 0 → ⊥) → counted exits enters n ≡ some (n - 1)
+  pub counted-down : exits ≡ true → enters ≡ false → (n ≡ 0 → ⊥) → countedOn exits enters n ≡ some (n - 1)
   counted-down e f z = rw (e, f) (go n z)
     where
-      go : (m : ℕ) → (m ≡ 0 → ⊥) → counted true false m ≡ some (m - 1)
+      go : (m : ℕ) → (m ≡ 0 → ⊥) → countedOn true false m ≡ some (m - 1)
       go zero z = absurd (z refl)
       go (suc m) z = let d : m ≡ suc m - 1 = omega arith in falls m ∙ ap some d
 
-  pub counted-up : exits ≡ false → enters ≡ true → counted exits enters n ≡ some (n + 1)
-  counted-up e f = rw (e, f) (unfold counted in refl)
+  pub counted-up : exits ≡ false → enters ≡ true → countedOn exits enters n ≡ some (n + 1)
+  counted-up e f = rw (e, f) (unfold countedOn in refl)
 
-  pub counted-level : exits ≡ false → enters ≡ false → counted exits enters n ≡ some n
-  counted-level e f = rw (e, f) (unfold counted in refl)
+  pub counted-level : exits ≡ false → enters ≡ false → countedOn exits enters n ≡ some n
+  counted-level e f = rw (e, f) (unfold countedOn in refl)
 
 -- a line adds at most one
-pub counted-most : (exits enters : Bool) (n m : ℕ) → counted exits enters n ≡ some m → m ≤ n + 1
-unfolding counted
+pub counted-most : (exits enters : Bool) (n m : ℕ) → countedOn exits enters n ≡ some m → m ≤ n + 1
+unfolding countedOn
 counted-most false false n m e = let f : n ≡ m = cc in omega arith
 counted-most false true n m e = let f : n + 1 ≡ m = cc in omega arith
 counted-most true false zero m e = absurd (no-some m e)
@@ -63,22 +63,22 @@ present-some (some b) e = (b, refl)
 
 -- by what a shape closes and opens
 module _ (l m : Shape) (n : ℕ) (a b : Bool) (same : m ≡ l) where
-  pub counted-onward : a ≡ present (closing m) → b ≡ present (opening m) → counted a b n ≡ onward l n
+  pub counted-onward : a ≡ present (closing m) → b ≡ present (opening m) → countedOn a b n ≡ onward l n
   unfolding onward
   counted-onward e f = cc
 
-  pub counted-backward : a ≡ present (opening m) → b ≡ present (closing m) → counted a b n ≡ backward l n
+  pub counted-backward : a ≡ present (opening m) → b ≡ present (closing m) → countedOn a b n ≡ backward l n
   unfolding backward
   counted-backward e f = cc
 
 -- the same over a stack
 module _ (bs : List Block) where
-  counted-stays : (e : Option Block) → counted false (present e) (length bs) ≡ some (length (with e bs))
+  counted-stays : (e : Option Block) → countedOn false (present e) (length bs) ≡ some (length (with e bs))
   unfolding present with
   counted-stays none = counted-level false false (length bs) refl refl
   counted-stays (some b) = counted-up false true (length bs) refl refl ∙ ap some (add-one (length bs))
 
-  counted-falls : (e : Option Block) → counted true (present e) (suc (length bs)) ≡ some (length (with e bs))
+  counted-falls : (e : Option Block) → countedOn true (present e) (suc (length bs)) ≡ some (length (with e bs))
   unfolding present with
   counted-falls none =
       let d : suc (length bs) - 1 ≡ length bs = omega arith in
@@ -87,9 +87,9 @@ module _ (bs : List Block) where
 
 -- a line met over the blocks bs, which lie above the block counted from: it leaves that block, or it goes on above it
 pub data Meets (o e : Option Block) (b : Block) (outer bs mid : List Block) : Type 0 where
-  leaves : bs ≡ [] → o ≡ some b → counted (present o) (present e) (length bs) ≡ none → Meets o e b outer bs mid
+  leaves : bs ≡ [] → o ≡ some b → countedOn (present o) (present e) (length bs) ≡ none → Meets o e b outer bs mid
   goes : (ds : List Block) → bs ≡ with o ds → mid ≡ ds ++ (b ∷ outer)
-      → counted (present o) (present e) (length bs) ≡ some (length (with e ds)) → Meets o e b outer bs mid
+      → countedOn (present o) (present e) (length bs) ≡ some (length (with e ds)) → Meets o e b outer bs mid
 
 pub meets : (o e : Option Block) (b : Block) (outer bs mid : List Block) → bs ++ (b ∷ outer) ≡ with o mid → Meets o e b outer bs mid
 unfolding with present

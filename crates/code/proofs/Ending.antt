@@ -10,7 +10,7 @@ use Rattle.terms.specs.Bytes.{Text}
 use Rattle.terms.specs.Parsed.{Parsed, got, bad, next, mapped, ended}
 use Rattle.code.specs.declared.Arguments.{Arguments}
 use Rattle.code.specs.declared.ReadList.{ReadList}
-use Rattle.code.specs.Answers.{asList, asStatement, argumentsOf, refusedAt, asCode, finished}
+use Rattle.code.specs.Vocabulary.Answers.{asList, asStatement, argumentsOf, refusedAt, asCode, finished}
 use Rattle.code.specs.Statements.{Statement}
 
 module _ (s : Text) (q : Parsed (Statement Worked Worked)) (p : ℕ) where

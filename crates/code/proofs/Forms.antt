@@ -11,7 +11,7 @@ use Rattle.terms.specs.Parsed.{bad, next, word, ended}
 use Rattle.code.specs.declared.Form.{Form}
 use Rattle.code.specs.declared.Form.the-variants as Form
 use Rattle.code.specs.declared.FormFound.the-variants as Form′
-use Rattle.code.specs.Answers.{asForm}
+use Rattle.code.specs.Vocabulary.Answers.{asForm}
 use Rattle.code.specs.Reader.{beginning, initials, formOf, wordOf, rest, statement}
 
 -- a byte that begins none of the forms

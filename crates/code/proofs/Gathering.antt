@@ -9,17 +9,17 @@ use Rattle.whole.specs.declared.Worked.the-variants.{Value, OutOfRange}
 use Rattle.terms.specs.Bytes.{Text, byteAt}
 use Rattle.layout.specs.Layout.{Cells}
 use Rattle.terms.specs.declared.Around.{Around}
-use Rattle.terms.specs.Answers.{surroundings}
+use Rattle.terms.specs.Vocabulary.Answers.{surroundings}
 use Rattle.terms.specs.Expressions.{brackets}
 use Rattle.terms.specs.Parsed.{Parsed, got, bad, mapped, repeated, joining}
-use Rattle.terms.specs.Readers.{expressionRead}
+use Rattle.terms.specs.Vocabulary.Readers.{expressionRead}
 use Rattle.terms.specs.Values.{values, guardValues}
 use Rattle.terms.proofs.Following.{respects-joining, mapped-id, mapped-got, mapped-bad}
 use Rattle.code.specs.declared.Arguments.{Arguments}
-use Rattle.code.specs.Answers.{noArguments, withOne, gathered}
+use Rattle.code.specs.Vocabulary.Answers.{noArguments, withOne, gathered}
 use Rattle.code.proofs.Ending.{after-got, after-bad}
 use Rattle.code.specs.Reader.{comma, operand, listed, arguments}
-use Rattle.code.specs.Readers.{gatheredRead, argumentsRead}
+use Rattle.code.specs.Vocabulary.Readers.{gatheredRead, argumentsRead}
 
 pub gathered-more : (a : Arguments) (ws : List Worked) (w : Worked) → gathered a (ws ++ (w ∷ [])) ≡ withOne (gathered a ws) w
 unfolding gathered

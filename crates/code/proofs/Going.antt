@@ -6,13 +6,14 @@ use mathlib.Core.Option.{some}
 use mathlib.Core.Path.{_≡_, sym, ap, subst, _∙_}
 use native.Mathlib.Omega.{arith}
 use lib.ListN.{length, getD}
-use Rattle.whole.specs.Whole.{asNatural}
+use Rattle.whole.specs.Vocabulary.Naturals.{asNatural}
 use Rattle.whole.specs.declared.Natural.the-variants.{Is, Not}
 use Rattle.whole.proofs.Ranges.{natural-some, natural-none}
 use Rattle.code.specs.declared.Shape.{Shape}
 use Rattle.code.specs.declared.Shape.the-variants as Shape
-use Rattle.code.specs.Blocks.{shapeAt, shapesIn, opening, closing, throughAll}
-use Rattle.code.specs.Counting.{present, onward, backward}
+use Rattle.code.specs.Blocks.{opening, closing, throughAll}
+use Rattle.code.specs.Vocabulary.Shapes.{shapeAt, shapesIn}
+use Rattle.code.specs.Vocabulary.Counting.{present, onward, backward}
 use Rattle.code.specs.Partners.{ahead, behind, goesFrom, goesTo}
 use Rattle.code.proofs.Counting.{present-some, counted-most}
 use Rattle.code.proofs.Searches.{Onward, onward-begins, onward-ends, onward-met, onward-goes, Backward, backward-begins, backward-ends, backward-met, backward-goes}

@@ -6,7 +6,7 @@ use Rattle.whole.specs.declared.Worked.{Worked}
 use Rattle.layout.specs.Layout.{Cells}
 use Rattle.terms.specs.declared.Around.{Around}
 use Rattle.terms.specs.declared.Limits.{Limits}
-use Rattle.terms.specs.Answers.{surroundings}
+use Rattle.terms.specs.Vocabulary.Answers.{surroundings}
 use Rattle.terms.specs.Bytes.{Text}
 use Rattle.terms.specs.Expressions.{Reading}
 use Rattle.terms.specs.Guards.{GuardReading}
@@ -15,9 +15,9 @@ use Rattle.terms.specs.Values.{values, guardValues}
 use Rattle.terms.proofs.Following.{mapped-got, mapped-bad}
 use Rattle.code.specs.declared.Arguments.{Arguments}
 use Rattle.code.specs.declared.Statement as Declared
-use Rattle.code.specs.Answers.{noArguments, gathered, asStatement, argumentsOf, refusedAt, asCode, finished}
+use Rattle.code.specs.Vocabulary.Answers.{noArguments, gathered, asStatement, argumentsOf, refusedAt, asCode, finished}
 use Rattle.code.specs.Reader.{arguments, listed, operand}
-use Rattle.code.specs.Readers.{argumentsRead, listedRead}
+use Rattle.code.specs.Vocabulary.Readers.{argumentsRead, listedRead}
 use Rattle.code.specs.Statements.{Statement}
 use Rattle.code.proofs.Ending.{code-got, code-bad}
 

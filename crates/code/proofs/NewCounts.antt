@@ -18,7 +18,7 @@ use Rattle.terms.proofs.Digits.{decimal-below}
 use Rattle.terms.proofs.Following.{next-mapped, repeated-none, repeated-some, joining-none, joining-some}
 use Rattle.code.specs.declared.Form.{Form}
 use Rattle.code.specs.declared.Form.the-variants as Form
-use Rattle.code.specs.Creating.{newOf}
+use Rattle.code.specs.Statements.{newOf}
 use Rattle.code.specs.Reader.{wordOf, formOf, comma, operand, listed, arguments, rest, statement}
 use Rattle.code.specs.Statements.{Statement, skip, set, new, call, get, await, if, else, fi, while, od, return}
 

@@ -11,7 +11,7 @@ use lib.Seq.{take-suc, drop-cons, split-at}
 use Rattle.code.specs.declared.Shape.{Shape}
 use Rattle.code.specs.declared.Shape.the-variants as Shape
 use Rattle.code.specs.Blocks.{Block, opening, closing, with, throughAll}
-use Rattle.code.specs.Counting.{present, counted, onward, backward}
+use Rattle.code.specs.Vocabulary.Counting.{present, countedOn, onward, backward}
 use Rattle.code.specs.Partners.{linesBetween, partners, firstFrom, lastBelow, orEnd, ahead, behind}
 use Rattle.code.proofs.Stacks.{no-some, with-append, all-nil, all-mid, all-with, all-append, all-split}
 use Rattle.code.proofs.Counting.{Meets, leaves, goes, meets}
@@ -79,9 +79,9 @@ module _ (ls : List Shape) (i : ℕ) where
           (r .0, meets _ _ (s .block) (s .outer) (s .inner) (r .0) (r .1), r .2)
 
       onward-counted : onward (getD ls j Shape.Plain) n
-          ≡ counted (present (closing (getD ls j Shape.Plain))) (present (opening (getD ls j Shape.Plain))) (length (s .inner))
+          ≡ countedOn (present (closing (getD ls j Shape.Plain))) (present (opening (getD ls j Shape.Plain))) (length (s .inner))
       unfolding onward
-      onward-counted = ap (counted _ _) (s .count)
+      onward-counted = ap (countedOn _ _) (s .count)
 
       ahead-some : firstFrom (partners ls i) (length ls) (i + 1) ≡ some j → ahead ls i ≡ j
       unfolding ahead orEnd
@@ -187,9 +187,9 @@ module _ (ls : List Shape) (i : ℕ) where
         (t .0, meets _ _ (s .block) (s .outer) (s .inner) (t .0) f, r .1 ∙ ap some (t .1))
 
     backward-counted : backward (getD ls j Shape.Plain) n
-        ≡ counted (present (opening (getD ls j Shape.Plain))) (present (closing (getD ls j Shape.Plain))) (length (s .inner))
+        ≡ countedOn (present (opening (getD ls j Shape.Plain))) (present (closing (getD ls j Shape.Plain))) (length (s .inner))
     unfolding backward
-    backward-counted = ap (counted _ _) (s .count)
+    backward-counted = ap (countedOn _ _) (s .count)
 
     back-some : lastBelow (λ k. partners ls k i) i ≡ some j → behind ls i ≡ j
     unfolding behind orEnd

@@ -9,7 +9,8 @@ use types.Run.{OneOf}
 use lib.ListN.{length, getD, length-map, List·getD-eq-default}
 use Rattle.code.specs.declared.Shape.{Shape}
 use Rattle.code.specs.declared.Shape.the-variants as Shape
-use Rattle.code.specs.Blocks.{shapeNumber, inOrder, shapeAt, shapesIn}
+use Rattle.code.specs.Blocks.{shapeNumber}
+use Rattle.code.specs.Vocabulary.Shapes.{inOrder, shapeAt, shapesIn}
 use Rattle.code.proofs.Shape.{the-type}
 
 -- a shape is that of its number

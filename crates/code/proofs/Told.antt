@@ -13,7 +13,7 @@ use Rattle.whole.specs.declared.Worked.{Worked}
 use Rattle.layout.specs.Layout.{Cells}
 use Rattle.terms.specs.declared.Around.{Around}
 use Rattle.terms.specs.declared.Limits.{Limits}
-use Rattle.terms.specs.Answers.{surroundings}
+use Rattle.terms.specs.Vocabulary.Answers.{surroundings}
 use Rattle.terms.specs.Bytes.{Text}
 use Rattle.terms.specs.Expressions.{Reading}
 use Rattle.terms.specs.Guards.{GuardReading}
@@ -26,12 +26,13 @@ use Rattle.code.specs.declared.NewFound.the-variants as New
 use Rattle.code.specs.declared.ReadCode.{ReadCode}
 use Rattle.code.specs.declared.ReadStatement.the-variants as Read
 use Rattle.code.specs.declared.Statement as Declared
-use Rattle.code.specs.Answers.{noArguments, withOne, gathered, asStatement, argumentsOf, refusedAt, asCode}
+use Rattle.code.specs.Vocabulary.Answers.{noArguments, withOne, gathered, asStatement, argumentsOf, refusedAt, asCode}
 use Rattle.code.specs.Blocks.{shapeOf}
-use Rattle.code.specs.Creating.{newOf, newSaid, asNew}
-use Rattle.code.specs.OpenBlocks.{shapeSaid}
+use Rattle.code.specs.Vocabulary.Creating.{newSaid, asNew}
+use Rattle.code.specs.Statements.{newOf}
+use Rattle.code.specs.Vocabulary.OpenBlocks.{shapeSaid}
 use Rattle.code.specs.Reader.{wordOf, formOf, rest, statement}
-use Rattle.code.specs.Readers.{statementRead}
+use Rattle.code.specs.Vocabulary.Readers.{statementRead}
 use Rattle.code.specs.Statements.{Statement, Code, skip, set, new, call, get, await, if, else, fi, while, od, return, mapStatement}
 use Rattle.code.proofs.Gathering.{one-more}
 use Rattle.code.proofs.OpenBlocks.{shape-said, shape-mapped}

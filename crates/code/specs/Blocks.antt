@@ -35,16 +35,6 @@ shapeNumber Shape.Return = 5
 shapeNumber Shape.Await = 6
 shapeNumber Shape.Plain = 7
 
--- the shape of a number, as a method's lines are handed to the code; a number of no shape is a plain line
-abbrev pub inOrder : List Shape
-inOrder = Shape.If ∷ Shape.Else ∷ Shape.Fi ∷ Shape.While ∷ Shape.Od ∷ Shape.Return ∷ Shape.Await ∷ []
-
-unfoldable pub shapeAt : ℕ → Shape
-shapeAt n = getD inOrder n Shape.Plain
-
-unfoldable pub shapesIn : List ℕ → List Shape
-shapesIn = map shapeAt
-
 unfoldable pub isShape : Shape → Shape → Bool
 isShape l m = eqb (shapeNumber l) (shapeNumber m)
 

@@ -1,6 +1,8 @@
 -- What a code value is, over what a reading gives for its expressions and guards. Assumes nothing.
 use Prim.Native.Nat.{ℕ}
 use mathlib.Core.List.{List, map}
+use mathlib.Core.Option.{Option, none, some}
+use lib.ListN.{length}
 use Rattle.terms.specs.declared.Variable.{Variable}
 use Rattle.terms.specs.Trees.{Expression, Guard}
 
@@ -37,3 +39,18 @@ mapStatement h k fi = fi
 mapStatement h k (while a) = while (h a)
 mapStatement h k od = od
 mapStatement h k (return a) = return (h a)
+
+-- the class that a `new` names, and how many arguments it has; none of another statement
+unfoldable pub newOf : {A G : Type 0} → Statement A G → Option (ℕ × ℕ)
+newOf skip = none
+newOf (set x a) = none
+newOf (new x k es) = some (k, length es)
+newOf (call x a j es) = none
+newOf (get x y) = none
+newOf (await g) = none
+newOf (if a) = none
+newOf else = none
+newOf fi = none
+newOf (while a) = none
+newOf od = none
+newOf (return a) = none

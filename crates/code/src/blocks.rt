@@ -8,7 +8,7 @@ ghost use mathlib.Core.Path.{_≡_};
 ghost use Prim.Native.Nat.{_<_};
 ghost use Rattle.code.specs.declared.Shape.the-variants as Shape;
 ghost use Rattle.code.specs.Blocks as Blocks;
-ghost use Rattle.code.specs.OpenBlocks as OpenBlocks;
+ghost use Rattle.code.specs.Vocabulary.OpenBlocks as OpenBlocks;
 
 // The digit of an `if` that waits for its `else`.
 const UNTIL_ELSE: u32 = 1;
@@ -58,14 +58,14 @@ pub fn shape_number(shape: Shape) -> u8
 fn opened(digit: u32, blocks: u32) -> BlocksAfter
     requires { ⌜ digit < 4 ⌝ }
     requires { ⌜ blocks < 65536 ⌝ }
-    ensures { λ r. ⌜ ((b : Blocks.Block) (bs : List Blocks.Block) → digit ≡ OpenBlocks.digit b → blocks ≡ OpenBlocks.packed bs → r ≡ OpenBlocks.asBlocks (some (b ∷ bs))) ⌝ }
+    ensures { λ r. ⌜ ((b : Blocks.Block) (bs : List Blocks.Block) → digit ≡ OpenBlocks.blockDigit b → blocks ≡ OpenBlocks.packedBlocks bs → r ≡ OpenBlocks.asBlocks (some (b ∷ bs))) ⌝ }
 {
     BlocksAfter::Open(digit + BASE * blocks)
 }
 
 // The open blocks without the innermost, which must have the digit.
 fn without(digit: u32, blocks: u32) -> BlocksAfter
-    ensures { λ r. ⌜ ((b : Blocks.Block) (bs : List Blocks.Block) → digit ≡ OpenBlocks.digit b → blocks ≡ OpenBlocks.packed bs → r ≡ OpenBlocks.asBlocks (Blocks.without (some b) bs)) ⌝ }
+    ensures { λ r. ⌜ ((b : Blocks.Block) (bs : List Blocks.Block) → digit ≡ OpenBlocks.blockDigit b → blocks ≡ OpenBlocks.packedBlocks bs → r ≡ OpenBlocks.asBlocks (Blocks.without (some b) bs)) ⌝ }
 {
     if blocks % BASE == digit {
         return BlocksAfter::Open(blocks / BASE);
@@ -76,7 +76,7 @@ fn without(digit: u32, blocks: u32) -> BlocksAfter
 // The open blocks after an `else`: the innermost must wait for it, and waits for its `fi` from here on.
 fn past_else(blocks: u32) -> BlocksAfter
     requires { ⌜ blocks < 65536 ⌝ }
-    ensures { λ r. ⌜ ((bs : List Blocks.Block) → blocks ≡ OpenBlocks.packed bs → r ≡ OpenBlocks.asBlocks (Blocks.through Shape.Else bs)) ⌝ }
+    ensures { λ r. ⌜ ((bs : List Blocks.Block) → blocks ≡ OpenBlocks.packedBlocks bs → r ≡ OpenBlocks.asBlocks (Blocks.through Shape.Else bs)) ⌝ }
 {
     if blocks % BASE == UNTIL_ELSE {
         return BlocksAfter::Open(blocks - UNTIL_ELSE + UNTIL_FI);
@@ -87,7 +87,7 @@ fn past_else(blocks: u32) -> BlocksAfter
 // The open blocks after a line.
 pub fn through(shape: Shape, blocks: u32) -> BlocksAfter
     requires { ⌜ blocks < 65536 ⌝ }
-    ensures { λ r. ⌜ ((bs : List Blocks.Block) → blocks ≡ OpenBlocks.packed bs → r ≡ OpenBlocks.asBlocks (Blocks.through shape bs)) ⌝ }
+    ensures { λ r. ⌜ ((bs : List Blocks.Block) → blocks ≡ OpenBlocks.packedBlocks bs → r ≡ OpenBlocks.asBlocks (Blocks.through shape bs)) ⌝ }
 {
     match shape {
         Shape::If => opened(UNTIL_ELSE, blocks),

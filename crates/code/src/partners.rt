@@ -7,14 +7,15 @@ ghost use mathlib.Core.Option.{some};
 ghost use mathlib.Core.Path.{_≡_};
 ghost use Prim.Native.Nat.{_+_, _<_, _^_};
 ghost use lib.ListN.{length, getD};
-ghost use Rattle.whole.specs.Whole as Whole;
+ghost use Rattle.whole.specs.Vocabulary.Naturals as Naturals;
 ghost use Rattle.code.specs.Blocks as Blocks;
-ghost use Rattle.code.specs.Counting as Counting;
+ghost use Rattle.code.specs.Vocabulary.Shapes as Shapes;
+ghost use Rattle.code.specs.Vocabulary.Counting as Counting;
 ghost use Rattle.code.specs.Partners as Partners;
 
 // The shape of a number.
 fn shape_at(number: u8) -> Shape
-    ensures { λ r. ⌜ r ≡ Blocks.shapeAt number ⌝ }
+    ensures { λ r. ⌜ r ≡ Shapes.shapeAt number ⌝ }
 {
     match number {
         0 => Shape::If,
@@ -51,7 +52,7 @@ fn opens(shape: Shape) -> bool
 // The count after a line that leaves a block or not and enters one or not; none where it leaves the block that was counted from.
 fn counted(leaves: bool, enters: bool, count: usize) -> Natural
     requires { ⌜ count < 2 ^ 63 ⌝ }
-    ensures { λ r. ⌜ r ≡ Whole.asNatural (Counting.counted leaves enters count) ⌝ }
+    ensures { λ r. ⌜ r ≡ Naturals.asNatural (Counting.countedOn leaves enters count) ⌝ }
 {
     if leaves {
         if count == 0 {
@@ -71,7 +72,7 @@ fn counted(leaves: bool, enters: bool, count: usize) -> Natural
 // The count after a line, met from an earlier line on.
 fn onward(line: u8, count: usize) -> Natural
     requires { ⌜ count < 2 ^ 63 ⌝ }
-    ensures { λ r. ⌜ r ≡ Whole.asNatural (Counting.onward (Blocks.shapeAt line) count) ⌝ }
+    ensures { λ r. ⌜ r ≡ Naturals.asNatural (Counting.onward (Shapes.shapeAt line) count) ⌝ }
 {
     let shape = shape_at(line);
     counted(closes(shape), opens(shape), count)
@@ -80,7 +81,7 @@ fn onward(line: u8, count: usize) -> Natural
 // The count after a line, met back from a later line.
 fn backward(line: u8, count: usize) -> Natural
     requires { ⌜ count < 2 ^ 63 ⌝ }
-    ensures { λ r. ⌜ r ≡ Whole.asNatural (Counting.backward (Blocks.shapeAt line) count) ⌝ }
+    ensures { λ r. ⌜ r ≡ Naturals.asNatural (Counting.backward (Shapes.shapeAt line) count) ⌝ }
 {
     let shape = shape_at(line);
     counted(opens(shape), closes(shape), count)
@@ -89,9 +90,9 @@ fn backward(line: u8, count: usize) -> Natural
 // The line after the partner of a line that opens a block.
 fn past_partner(lines: &[u8], i: usize) -> usize
     requires { ⌜ i < length (now lines) ⌝ }
-    requires { ⌜ Blocks.throughAll (Blocks.shapesIn (now lines)) [] ≡ some [] ⌝ }
-    requires { ⌜ Counting.present (Blocks.opening (Blocks.shapeAt (getD (now lines) i 0))) ≡ true ⌝ }
-    ensures { λ r. ⌜ r ≡ Partners.ahead (Blocks.shapesIn (now (lines .entry))) i + 1 ⌝ }
+    requires { ⌜ Blocks.throughAll (Shapes.shapesIn (now lines)) [] ≡ some [] ⌝ }
+    requires { ⌜ Counting.present (Blocks.opening (Shapes.shapeAt (getD (now lines) i 0))) ≡ true ⌝ }
+    ensures { λ r. ⌜ r ≡ Partners.ahead (Shapes.shapesIn (now (lines .entry))) i + 1 ⌝ }
 {
     let mut opened: usize = 0;
     let mut j = i + 1;
@@ -108,9 +109,9 @@ fn past_partner(lines: &[u8], i: usize) -> usize
 // The partner of a line that closes a block.
 fn partner_before(lines: &[u8], i: usize) -> usize
     requires { ⌜ i < length (now lines) ⌝ }
-    requires { ⌜ Blocks.throughAll (Blocks.shapesIn (now lines)) [] ≡ some [] ⌝ }
-    requires { ⌜ Counting.present (Blocks.closing (Blocks.shapeAt (getD (now lines) i 0))) ≡ true ⌝ }
-    ensures { λ r. ⌜ r ≡ Partners.behind (Blocks.shapesIn (now (lines .entry))) i ⌝ }
+    requires { ⌜ Blocks.throughAll (Shapes.shapesIn (now lines)) [] ≡ some [] ⌝ }
+    requires { ⌜ Counting.present (Blocks.closing (Shapes.shapeAt (getD (now lines) i 0))) ≡ true ⌝ }
+    ensures { λ r. ⌜ r ≡ Partners.behind (Shapes.shapesIn (now (lines .entry))) i ⌝ }
 {
     let mut closed: usize = 0;
     let mut j = i;
@@ -127,8 +128,8 @@ fn partner_before(lines: &[u8], i: usize) -> usize
 // The line that a line of a whole method goes to, by the numbers of its lines' shapes.
 pub fn goes_to(lines: &[u8], i: usize) -> usize
     requires { ⌜ i < length (now lines) ⌝ }
-    requires { ⌜ Blocks.throughAll (Blocks.shapesIn (now lines)) [] ≡ some [] ⌝ }
-    ensures { λ r. ⌜ r ≡ Partners.goesTo (Blocks.shapesIn (now (lines .entry))) i ⌝ }
+    requires { ⌜ Blocks.throughAll (Shapes.shapesIn (now lines)) [] ≡ some [] ⌝ }
+    ensures { λ r. ⌜ r ≡ Partners.goesTo (Shapes.shapesIn (now (lines .entry))) i ⌝ }
 {
     match shape_at(lines[i]) {
         Shape::If | Shape::Else | Shape::While => past_partner(lines, i),

@@ -21,15 +21,15 @@ use whole::Worked;
 ghost use mathlib.Core.Path.{_≡_};
 ghost use Prim.Native.Nat.{_+_, _-_, _≤_, _<_, _^_};
 ghost use lib.ListN.{length, set};
-ghost use Rattle.terms.specs.Answers.{asValue, asVariable, asWord};
+ghost use Rattle.terms.specs.Vocabulary.Answers.{asValue, asVariable, asWord};
 ghost use Rattle.terms.specs.Leaves as Leaves;
 ghost use Rattle.terms.specs.Expressions.{brackets};
 ghost use Rattle.terms.specs.Parsed.{word, closed, ended, mapped};
-ghost use Rattle.terms.specs.Readers.{expressionRead};
+ghost use Rattle.terms.specs.Vocabulary.Readers.{expressionRead};
 ghost use Rattle.code.specs.declared.Form.the-variants as Form;
-ghost use Rattle.code.specs.Answers as Answers;
+ghost use Rattle.code.specs.Vocabulary.Answers as Answers;
 ghost use Rattle.code.specs.Reader as Reader;
-ghost use Rattle.code.specs.Readers as Readers;
+ghost use Rattle.code.specs.Vocabulary.Readers as Readers;
 
 // "J 0..7"
 const LAST_METHOD: u32 = 7;

@@ -5,7 +5,7 @@ use native.Mathlib.Omega.{arith}
 use Rattle.terms.specs.Bytes.{Text}
 use Rattle.model.specs.Judge.{judge}
 use Rattle.model.proofs.VerdictBounds.{judge-small}
-use Rattle.creol.specs.Packed.{packed}
+use Rattle.creol.specs.Vocabulary.Packed.{packed}
 
 -- two texts with one answer have one verdict: number and line
 pub told-apart : (s t : Text) → packed (judge s) ≡ packed (judge t) → (judge s .number ≡ judge t .number) × (judge s .line ≡ judge t .line)

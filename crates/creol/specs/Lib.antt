@@ -1,2 +1,2 @@
 -- What the entries for C and Rust give.
-pub mod Packed
+pub mod Vocabulary

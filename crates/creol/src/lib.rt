@@ -4,7 +4,7 @@ use model::Verdict;
 use model::judging;
 ghost use mathlib.Core.Path.{_≡_};
 ghost use Rattle.model.specs.Judge as Judge;
-ghost use Rattle.creol.specs.Packed as Packed;
+ghost use Rattle.creol.specs.Vocabulary.Packed as Packed;
 
 // A verdict has a number and a line, and nothing above them.
 fn packed(verdict: Verdict) -> u64

@@ -7,7 +7,7 @@ use mathlib.Core.Path.{refl}
 use lib.IntN.{ℤ, pos, negsuc}
 use lib.ListN.{replicate}
 use Rattle.whole.proofs.Tables.{Row, _is_, Holds}
-use Rattle.layout.specs.Layout.{Cells, size, toObject, toCall, runningLabel, stage, value}
+use Rattle.layout.specs.Layout.{Cells, allCells, toObject, toCall, runningLabel, stage, value}
 use Rattle.layout.specs.Stages.{taken}
 use Rattle.terms.specs.Bytes.{Text, bytes}
 use Rattle.model.proofs.Session.{session-texts, session-with}
@@ -27,7 +27,7 @@ bad-text = good-text ++ bytes "\n"
 
 -- cells that are too few, cells that are too many, and cells that are no configuration: the running call is not its callee's
 short : Cells
-short = replicate (size - 1) (negsuc 0)
+short = replicate (allCells - 1) (negsuc 0)
 
 long : Cells
 long = fresh ++ (pos 0 ∷ [])

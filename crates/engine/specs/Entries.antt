@@ -7,7 +7,7 @@ use lib.Dec.{leb, eqb}
 use lib.IntN.{ℤ}
 use lib.ListN.{length}
 use Rattle.whole.specs.Refusals.{accepted, cellsNotAll, noConfiguration, answersDiffer, budgetTooLarge}
-use Rattle.layout.specs.Layout.{Cells, size}
+use Rattle.layout.specs.Layout.{Cells, allCells}
 use Rattle.terms.specs.Bytes.{Text}
 use Rattle.model.specs.declared.Verdict.{Verdict}
 use Rattle.model.specs.Judge.{refusal, model, judged}
@@ -41,7 +41,7 @@ outcome v c answers = record { verdict = v; cells = c; answers = answers; steps 
 unfoldable pub withModel : Text → Cells → List ℤ → (Model → Outcome) → Outcome
 withModel s c answers go = elim (judged s) [
   | refusal n at ↦ outcome (record { number = n; line = at }) c answers
-  | model m ↦ elim (eqb (length c) size) [ true ↦ go m | false ↦ outcome (atNoLine cellsNotAll) c answers ]
+  | model m ↦ elim (eqb (length c) allCells) [ true ↦ go m | false ↦ outcome (atNoLine cellsNotAll) c answers ]
 ]
 
 -- then 11

@@ -2,10 +2,10 @@
 use mathlib.Core.List.{[]}
 use lib.IntN.{pos}
 use lib.ListN.{replicate}
-use Rattle.layout.specs.Layout.{Cells, size, write, objects, calls, newObject, newCall}
+use Rattle.layout.specs.Layout.{Cells, allCells, write, objects, calls, newObject, newCall}
 use Rattle.layout.specs.Stages.{running}
 
 -- "Start writes: one object of class 0, attributes 0, running label 1; call 1 with caller 0, callee 1, method 0, stage 4, the rest 0."
 unfoldable pub fresh : Cells
 fresh =
-    newCall (newObject (write (write (replicate size (pos 0)) objects (pos 1)) calls (pos 1)) 1 0 1 []) 1 running 0 1 0 []
+    newCall (newObject (write (write (replicate allCells (pos 0)) objects (pos 1)) calls (pos 1)) 1 0 1 []) 1 running 0 1 0 []

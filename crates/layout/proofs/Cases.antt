@@ -6,13 +6,13 @@ use Prim.Native.Nat.{ℕ}
 use lib.IntN.{pos, negsuc}
 use lib.ListN.{replicate}
 use Rattle.whole.proofs.Tables.{Row, _is_, Holds}
-use Rattle.layout.specs.Layout.{Cells, size, write, objects, calls, newCall}
+use Rattle.layout.specs.Layout.{Cells, allCells, write, objects, calls, newCall}
 use Rattle.layout.specs.Stages.{answered, replied, replyFor, objectOf, labelOf}
 use Rattle.layout.proofs.Open.{layout-open}
 
 two-calls : Cells
 two-calls =
-    newCall (newCall (write (write (replicate size (pos 0)) objects (pos 2)) calls (pos 2)) 1 replied 1 2 0 []) 2 answered 1 2 0 []
+    newCall (newCall (write (write (replicate allCells (pos 0)) objects (pos 2)) calls (pos 2)) 1 replied 1 2 0 []) 2 answered 1 2 0 []
 
 table : List (Row (Option ℕ))
 table =

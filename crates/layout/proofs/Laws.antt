@@ -7,10 +7,10 @@ use native.Mathlib.Omega.{arith}
 use lib.ListN.{length, length-set}
 use lib.Seq.{getD-set-same, getD-set-other}
 use lib.IntN.{ℤ, pos}
-use Rattle.layout.specs.Layout.{Cells, Place, header, object, call, Stands, cellOf, read, write, size}
+use Rattle.layout.specs.Layout.{Cells, Place, header, object, call, Stands, cellOf, read, write, allCells}
 
 -- a place that stands has a cell of the configuration
-pub cell-below : (p : Place) → Stands p → cellOf p < size
+pub cell-below : (p : Place) → Stands p → cellOf p < allCells
 unfolding cellOf
 cell-below (header i) h = omega arith
 cell-below (object o f) h = omega arith
@@ -36,7 +36,7 @@ module _ (c : Cells) (p : Place) (z : ℤ) where
   length-write = length-set c (cellOf p) z
 
   -- a write puts its value at its own place
-  pub read-write-same : Stands p → length c ≡ size → read (write c p z) p ≡ z
+  pub read-write-same : Stands p → length c ≡ allCells → read (write c p z) p ≡ z
   unfolding read write
   read-write-same h e =
       let b = cell-below p h in

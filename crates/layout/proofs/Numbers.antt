@@ -13,7 +13,7 @@ use Rattle.whole.specs.Whole.{between, nat}
 use Rattle.layout.specs.declared.Label.{Label}
 use Rattle.layout.specs.declared.LabelFound.{LabelFound}
 use Rattle.layout.specs.declared.LabelFound.the-variants.{At, Nothing}
-use Rattle.layout.specs.Found.{asLabel}
+use Rattle.layout.specs.Vocabulary.Found.{asLabel}
 use Rattle.layout.specs.Layout.{Cells, read, calls}
 use Rattle.layout.specs.Stages.{onlyIf, labelOf, isReply, replyFor}
 

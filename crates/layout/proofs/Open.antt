@@ -1,5 +1,5 @@
 -- A proof that computes with the definitions of this crate and of all below it says `unfolding layout-open`. Assumes nothing.
-use Rattle.layout.specs.Found
+use Rattle.layout.specs.Vocabulary.Found
 use Rattle.layout.specs.Layout
 use Rattle.layout.specs.Stages
 use Rattle.whole.proofs.Open.{whole-open}

@@ -27,11 +27,11 @@ abbrev pub callCells : ℕ
 callCells = 16
 
 -- what a class may have of attributes, and a method of locals: `a0..a7`, `v0..v7`
-abbrev pub attributes : ℕ
-attributes = 8
+abbrev pub mostAttributes : ℕ
+mostAttributes = 8
 
-abbrev pub locals : ℕ
-locals = 8
+abbrev pub mostLocals : ℕ
+mostLocals = 8
 
 abbrev pub firstObject : ℕ
 firstObject = headerCells
@@ -40,8 +40,8 @@ abbrev pub firstCall : ℕ
 firstCall = firstObject + objectRows * objectCells
 
 -- "2,370 cells"
-abbrev pub size : ℕ
-size = firstCall + callRows * callCells
+abbrev pub allCells : ℕ
+allCells = firstCall + callRows * callCells
 
 -- a place: a header cell, or a field of a row. "Row i, from 1, is object i or label i. Object numbers and labels are counted apart,
 -- and neither stands in for the other."
@@ -146,10 +146,10 @@ padded n zs = take n (zs ++ replicate n (pos 0))
 
 -- the row of a new object: its class, its running label, and its first attributes
 unfoldable pub newObject : Cells → ℕ → ℕ → ℕ → List ℤ → Cells
-newObject c o k l zs = toObjectFrom c o class (pos k ∷ pos l ∷ padded attributes zs)
+newObject c o k l zs = toObjectFrom c o class (pos k ∷ pos l ∷ padded mostAttributes zs)
 
 -- the row of a new call: its stage, caller, callee and method, the number of its arguments, and these in v0 on; line, cleared and value 0
 unfoldable pub newCall : Cells → ℕ → ℕ → ℕ → ℕ → ℕ → List ℤ → Cells
 newCall c l s by to j zs =
     toCallFrom c l stage (
-    pos s ∷ pos by ∷ pos to ∷ pos j ∷ pos (length zs) ∷ pos 0 ∷ pos 0 ∷ pos 0 ∷ padded locals zs)
+    pos s ∷ pos by ∷ pos to ∷ pos j ∷ pos (length zs) ∷ pos 0 ∷ pos 0 ∷ pos 0 ∷ padded mostLocals zs)

@@ -6,7 +6,7 @@ ghost use lib.ListN.{getD};
 ghost use Rattle.whole.specs.Whole as Whole;
 ghost use Rattle.layout.specs.Layout as Layout;
 ghost use Rattle.layout.specs.Stages as Stages;
-ghost use Rattle.layout.specs.Found as Found;
+ghost use Rattle.layout.specs.Vocabulary.Found as Found;
 
 // "Object numbers and labels are counted apart, and neither stands in for the other." Each is made from a cell only after its test.
 pub struct ObjectNumber(pub u8);

@@ -8,17 +8,17 @@ use Rattle.whole.specs.Refusals.{wrongBlocks}
 use Rattle.code.specs.declared.BlocksAfter.the-variants as After
 use Rattle.code.specs.declared.Shape.{Shape}
 use Rattle.code.specs.Blocks.{Block, shapeOf, through}
-use Rattle.code.specs.OpenBlocks.{packed, asBlocks}
+use Rattle.code.specs.Vocabulary.OpenBlocks.{packedBlocks, asBlocks}
 use Rattle.code.specs.Statements.{Code}
 use Rattle.code.proofs.OpenBlocks.{unmatched-told, open-told}
 use Rattle.model.specs.declared.Counts.{Counts}
-use Rattle.model.specs.Automaton.{State, methodCounted, counted, blockLine, stated, refused, fed}
-use Rattle.model.specs.Counts.{mayStand}
+use Rattle.model.specs.Vocabulary.Automaton.{State, methodCounted, countsOf, blockLine, stated, refused, fed}
+use Rattle.model.specs.Vocabulary.Counts.{mayStand}
 
-module _ (k : Counts) (st : State) (e : k ≡ counted st) where
+module _ (k : Counts) (st : State) (e : k ≡ countsOf st) where
   -- the number of the open blocks
-  pub open-same : k .method .blocks ≡ packed (st .method .blocks)
-  unfolding counted methodCounted
+  pub open-same : k .method .blocks ≡ packedBlocks (st .method .blocks)
+  unfolding countsOf methodCounted
   open-same = ap (λ i. i .method .blocks) e
 
   module _ (c : Code) (shape : Shape) (w : shape ≡ shapeOf c) where
@@ -29,12 +29,12 @@ module _ (k : Counts) (st : State) (e : k ≡ counted st) where
 
     -- the blocks that are open after a line
     pub block-open : (n : ℕ) → After.Open n ≡ asBlocks (through shape (st .method .blocks))
-        → (bs : List Block) × (through (shapeOf c) (st .method .blocks) ≡ some bs) × (n ≡ packed bs)
+        → (bs : List Block) × (through (shapeOf c) (st .method .blocks) ≡ some bs) × (n ≡ packedBlocks bs)
     block-open n o = open-told _ n (ap (λ s. asBlocks (through s (st .method .blocks))) (sym w) ∙ sym o)
 
     module _ (at : ℕ) (bs : List Block) (o : through (shapeOf c) (st .method .blocks) ≡ some bs) where
-      stands-same : mayStand k shape bs ≡ mayStand (counted st) (shapeOf c) bs
-      stands-same = ap (λ i. mayStand i shape bs) e ∙ ap (λ s. mayStand (counted st) s bs) w
+      stands-same : mayStand k shape bs ≡ mayStand (countsOf st) (shapeOf c) bs
+      stands-same = ap (λ i. mayStand i shape bs) e ∙ ap (λ s. mayStand (countsOf st) s bs) w
 
       -- a line that may not stand where it stands, and one that may
       pub block-refused : mayStand k shape bs ≡ false → blockLine at st c ≡ refused wrongBlocks

@@ -7,7 +7,7 @@ use native.Mathlib.Omega.{arith}
 use borrow.Author.Tests.{lt-ltb, le-ltb}
 use lib.ListN.{length}
 use Rattle.code.specs.Blocks.{Block}
-use Rattle.code.specs.OpenBlocks.{packed}
+use Rattle.code.specs.Vocabulary.OpenBlocks.{packedBlocks}
 use Rattle.code.specs.Statements.{Code}
 use Rattle.model.specs.declared.Counts.{Counts}
 use Rattle.model.specs.declared.ClassCounts.{ClassCounts}
@@ -15,8 +15,8 @@ use Rattle.model.specs.declared.ModelCounts.{ModelCounts}
 use Rattle.model.specs.declared.MethodCounts.{MethodCounts}
 use Rattle.model.specs.declared.Key.{Key}
 use Rattle.model.specs.declared.Key.the-variants as Key
-use Rattle.model.specs.Counts.{ofModel, ofClass, ofMethod, isLast}
-use Rattle.model.specs.Automaton.{InModel, InClass, InMethod, State, modelCounted, classCounted, methodCounted, counted, withModel, withClass, withMethod, classJoined, classClosed, nextMethod, methodJoined, methodClosed, methodsBegun, linesCounted, linesBegun, numbered, codeJoined, creationsJoined, lineJoined, stated}
+use Rattle.model.specs.Vocabulary.Counts.{ofModel, ofClass, ofMethod, isLast}
+use Rattle.model.specs.Vocabulary.Automaton.{InModel, InClass, InMethod, State, modelCounted, classCounted, methodCounted, countsOf, modelAnew, classAnew, methodAnew, classJoined, classClosed, nextMethod, methodJoined, methodClosed, methodsBegun, linesCounted, linesBegun, numberFed, codeJoined, creationsJoined, lineJoined, stated}
 use Rattle.model.proofs.TableRows.{append-length}
 
 -- a class more is read, and a method more
@@ -42,74 +42,74 @@ linesSet o n = record { params = o .params; locals = o .locals; lines = n; read 
 
 -- the parts of a state put anew
 module _ (st : State) (key : Key) where
-  with-model : (m : InModel) → counted (withModel st key m) ≡ ofModel (counted st) key (modelCounted m)
-  unfolding counted withModel
+  with-model : (m : InModel) → countsOf (modelAnew st key m) ≡ ofModel (countsOf st) key (modelCounted m)
+  unfolding countsOf modelAnew
   with-model m = refl
 
-  with-class : (c : InClass) → counted (withClass st key c) ≡ ofClass (counted st) key (classCounted c)
-  unfolding counted withClass
+  with-class : (c : InClass) → countsOf (classAnew st key c) ≡ ofClass (countsOf st) key (classCounted c)
+  unfolding countsOf classAnew
   with-class c = refl
 
-  with-method : (o : InMethod) → counted (withMethod st key o) ≡ ofMethod (counted st) key (methodCounted o)
-  unfolding counted withMethod
+  with-method : (o : InMethod) → countsOf (methodAnew st key o) ≡ ofMethod (countsOf st) key (methodCounted o)
+  unfolding countsOf methodAnew
   with-method o = refl
 
 module _ (st : State) where
-  class-joined : modelCounted (classJoined st) ≡ classMore (counted st .model)
-  unfolding classJoined modelCounted counted
+  class-joined : modelCounted (classJoined st) ≡ classMore (countsOf st .model)
+  unfolding classJoined modelCounted countsOf
   class-joined = rw (append-length (st .model .done) _) refl
 
-  method-joined : classCounted (methodJoined st) ≡ methodMore (counted st .class)
-  unfolding methodJoined classCounted counted
+  method-joined : classCounted (methodJoined st) ≡ methodMore (countsOf st .class)
+  unfolding methodJoined classCounted countsOf
   method-joined = rw (append-length (st .class .done) _) refl
 
-  code-joined : (c : Code) (bs : List Block) → methodCounted (codeJoined st c bs) ≡ lineMore (counted st .method) (packed bs)
-  unfolding codeJoined methodCounted counted
+  code-joined : (c : Code) (bs : List Block) → methodCounted (codeJoined st c bs) ≡ lineMore (countsOf st .method) (packedBlocks bs)
+  unfolding codeJoined methodCounted countsOf
   code-joined c bs = rw (append-length (st .method .done) c) refl
 
   -- a creation is not counted
-  creations-joined : (at : ℕ) (c : Code) → modelCounted (creationsJoined at st c) ≡ counted st .model
-  unfolding creationsJoined modelCounted counted
+  creations-joined : (at : ℕ) (c : Code) → modelCounted (creationsJoined at st c) ≡ countsOf st .model
+  unfolding creationsJoined modelCounted countsOf
   creations-joined at c = refl
 
 -- counts that are those of a state
-module _ (k : Counts) (st : State) (e : k ≡ counted st) where
+module _ (k : Counts) (st : State) (e : k ≡ countsOf st) where
   classes-read : length (classJoined st .done) ≡ k .model .read + 1
-  unfolding classJoined modelCounted counted
+  unfolding classJoined modelCounted countsOf
   classes-read = append-length (st .model .done) _ ∙ ap (λ i. i .model .read + 1) (sym e)
 
   classes-all : st .model .classes ≡ k .model .classes
-  unfolding modelCounted counted
+  unfolding modelCounted countsOf
   classes-all = ap (λ i. i .model .classes) (sym e)
 
   methods-read : length (st .class .done) ≡ k .class .read
-  unfolding classCounted counted
+  unfolding classCounted countsOf
   methods-read = ap (λ i. i .class .read) (sym e)
 
   methods-all : st .class .methods ≡ k .class .methods
-  unfolding classCounted counted
+  unfolding classCounted countsOf
   methods-all = ap (λ i. i .class .methods) (sym e)
 
-  class-later : (key : Key) → ofModel k key (classMore (k .model)) ≡ counted (withModel st key (classJoined st))
+  class-later : (key : Key) → ofModel k key (classMore (k .model)) ≡ countsOf (modelAnew st key (classJoined st))
   class-later key =
       ap (λ i. ofModel i key (classMore (i .model))) e
-      ∙ ap (ofModel (counted st) key) (sym (class-joined st))
+      ∙ ap (ofModel (countsOf st) key) (sym (class-joined st))
       ∙ sym (with-model st key (classJoined st))
 
-  pub closed-next : k .model .read + 1 < k .model .classes → ofModel k Key.Class (classMore (k .model)) ≡ counted (classClosed st)
+  pub closed-next : k .model .read + 1 < k .model .classes → ofModel k Key.Class (classMore (k .model)) ≡ countsOf (classClosed st)
   unfolding classClosed
   closed-next h =
       let j : length (classJoined st .done) < st .model .classes = omega (arith, classes-read, classes-all) in
       rw (lt-ltb _ _ j, classClosed) (class-later Key.Class)
 
-  pub closed-end : k .model .classes ≤ k .model .read + 1 → ofModel k Key.End (classMore (k .model)) ≡ counted (classClosed st)
+  pub closed-end : k .model .classes ≤ k .model .read + 1 → ofModel k Key.End (classMore (k .model)) ≡ countsOf (classClosed st)
   unfolding classClosed
   closed-end h =
       let j : st .model .classes ≤ length (classJoined st .done) = omega (arith, classes-read, classes-all) in
       rw (le-ltb _ _ j, classClosed) (class-later Key.End)
 
-  pub next-comes : k .class .read < k .class .methods → ofClass k Key.Method (k .class) ≡ counted (nextMethod st)
-  unfolding nextMethod counted classCounted
+  pub next-comes : k .class .read < k .class .methods → ofClass k Key.Method (k .class) ≡ countsOf (nextMethod st)
+  unfolding nextMethod countsOf classCounted
   next-comes h =
       let j : length (st .class .done) < st .class .methods = omega (arith, methods-read, methods-all) in
       rw (lt-ltb _ _ j, nextMethod) (ap (λ i. ofClass i Key.Method (i .class)) e ∙ sym (with-class st Key.Method (st .class)))
@@ -120,82 +120,82 @@ module _ (k : Counts) (st : State) (e : k ≡ counted st) where
       let j : st .class .methods ≤ length (st .class .done) = omega (arith, methods-read, methods-all) in
       rw (le-ltb _ _ j, nextMethod) refl
 
-  pub method-later : ofClass k Key.Method (methodMore (k .class)) ≡ counted (withClass st Key.Method (methodJoined st))
+  pub method-later : ofClass k Key.Method (methodMore (k .class)) ≡ countsOf (classAnew st Key.Method (methodJoined st))
   method-later =
       ap (λ i. ofClass i Key.Method (methodMore (i .class))) e
-      ∙ ap (ofClass (counted st) Key.Method) (sym (method-joined st))
+      ∙ ap (ofClass (countsOf st) Key.Method) (sym (method-joined st))
       ∙ sym (with-class st Key.Method (methodJoined st))
 
-  pub methods-begun : (n : ℕ) → ofClass k Key.Method (methodsSet (k .class) n) ≡ counted (withClass st Key.Method (methodsBegun st n))
-  unfolding methodsBegun counted withClass classCounted
+  pub methods-begun : (n : ℕ) → ofClass k Key.Method (methodsSet (k .class) n) ≡ countsOf (classAnew st Key.Method (methodsBegun st n))
+  unfolding methodsBegun countsOf classAnew classCounted
   methods-begun n = ap (λ i. ofClass i Key.Method (methodsSet (i .class) n)) e
 
-  pub lines-begun : (n : ℕ) → ofMethod (ofModel k Key.Code (linesSummed (k .model) n)) Key.Code (linesSet (k .method) n) ≡ counted (numbered Key.Lines st n)
-  unfolding numbered linesCounted linesBegun counted withModel withMethod modelCounted methodCounted packed
+  pub lines-begun : (n : ℕ) → ofMethod (ofModel k Key.Code (linesSummed (k .model) n)) Key.Code (linesSet (k .method) n) ≡ countsOf (numberFed Key.Lines st n)
+  unfolding numberFed linesCounted linesBegun countsOf modelAnew methodAnew modelCounted methodCounted packedBlocks
   lines-begun n = ap (λ i. ofMethod (ofModel i Key.Code (linesSummed (i .model) n)) Key.Code (linesSet (i .method) n)) e
 
   -- each number takes its place
-  pub number-creol : (n : ℕ) → ofModel k Key.Classes (k .model) ≡ counted (numbered Key.Creol st n)
-  unfolding numbered counted withModel withClass withMethod modelCounted classCounted methodCounted
+  pub number-creol : (n : ℕ) → ofModel k Key.Classes (k .model) ≡ countsOf (numberFed Key.Creol st n)
+  unfolding numberFed countsOf modelAnew classAnew methodAnew modelCounted classCounted methodCounted
   number-creol n = ap (λ i. ofModel i Key.Classes (i .model)) e
 
-  pub number-classes : (n : ℕ) → ofModel k Key.Class (record { classes = n; total = k .model .total; read = k .model .read }) ≡ counted (numbered Key.Classes st n)
-  unfolding numbered counted withModel withClass withMethod modelCounted classCounted methodCounted
+  pub number-classes : (n : ℕ) → ofModel k Key.Class (record { classes = n; total = k .model .total; read = k .model .read }) ≡ countsOf (numberFed Key.Classes st n)
+  unfolding numberFed countsOf modelAnew classAnew methodAnew modelCounted classCounted methodCounted
   number-classes n = ap (λ i. ofModel i Key.Class (record { classes = n; total = i .model .total; read = i .model .read })) e
 
-  pub number-class : (n : ℕ) → ofClass k Key.Attrs (k .class) ≡ counted (numbered Key.Class st n)
-  unfolding numbered counted withModel withClass withMethod modelCounted classCounted methodCounted
+  pub number-class : (n : ℕ) → ofClass k Key.Attrs (k .class) ≡ countsOf (numberFed Key.Class st n)
+  unfolding numberFed countsOf modelAnew classAnew methodAnew modelCounted classCounted methodCounted
   number-class n = ap (λ i. ofClass i Key.Attrs (i .class)) e
 
-  pub number-attrs : (n : ℕ) → ofClass k Key.Given (record { attrs = n; given = k .class .given; run = k .class .run; methods = k .class .methods; read = k .class .read }) ≡ counted (numbered Key.Attrs st n)
-  unfolding numbered counted withModel withClass withMethod modelCounted classCounted methodCounted
+  pub number-attrs : (n : ℕ) → ofClass k Key.Given (record { attrs = n; given = k .class .given; run = k .class .run; methods = k .class .methods; read = k .class .read }) ≡ countsOf (numberFed Key.Attrs st n)
+  unfolding numberFed countsOf modelAnew classAnew methodAnew modelCounted classCounted methodCounted
   number-attrs n = ap (λ i. ofClass i Key.Given (record { attrs = n; given = i .class .given; run = i .class .run; methods = i .class .methods; read = i .class .read })) e
 
-  pub number-given : (n : ℕ) → ofClass k Key.Run (record { attrs = k .class .attrs; given = n; run = k .class .run; methods = k .class .methods; read = k .class .read }) ≡ counted (numbered Key.Given st n)
-  unfolding numbered counted withModel withClass withMethod modelCounted classCounted methodCounted
+  pub number-given : (n : ℕ) → ofClass k Key.Run (record { attrs = k .class .attrs; given = n; run = k .class .run; methods = k .class .methods; read = k .class .read }) ≡ countsOf (numberFed Key.Given st n)
+  unfolding numberFed countsOf modelAnew classAnew methodAnew modelCounted classCounted methodCounted
   number-given n = ap (λ i. ofClass i Key.Run (record { attrs = i .class .attrs; given = n; run = i .class .run; methods = i .class .methods; read = i .class .read })) e
 
-  pub number-run : (n : ℕ) → ofClass k Key.Methods (record { attrs = k .class .attrs; given = k .class .given; run = n; methods = k .class .methods; read = k .class .read }) ≡ counted (numbered Key.Run st n)
-  unfolding numbered counted withModel withClass withMethod modelCounted classCounted methodCounted
+  pub number-run : (n : ℕ) → ofClass k Key.Methods (record { attrs = k .class .attrs; given = k .class .given; run = n; methods = k .class .methods; read = k .class .read }) ≡ countsOf (numberFed Key.Run st n)
+  unfolding numberFed countsOf modelAnew classAnew methodAnew modelCounted classCounted methodCounted
   number-run n = ap (λ i. ofClass i Key.Methods (record { attrs = i .class .attrs; given = i .class .given; run = n; methods = i .class .methods; read = i .class .read })) e
 
-  pub number-method : (n : ℕ) → ofMethod k Key.Params (k .method) ≡ counted (numbered Key.Method st n)
-  unfolding numbered counted withModel withClass withMethod modelCounted classCounted methodCounted
+  pub number-method : (n : ℕ) → ofMethod k Key.Params (k .method) ≡ countsOf (numberFed Key.Method st n)
+  unfolding numberFed countsOf modelAnew classAnew methodAnew modelCounted classCounted methodCounted
   number-method n = ap (λ i. ofMethod i Key.Params (i .method)) e
 
-  pub number-params : (n : ℕ) → ofMethod k Key.Locals (record { params = n; locals = k .method .locals; lines = k .method .lines; read = k .method .read; blocks = k .method .blocks }) ≡ counted (numbered Key.Params st n)
-  unfolding numbered counted withModel withClass withMethod modelCounted classCounted methodCounted
+  pub number-params : (n : ℕ) → ofMethod k Key.Locals (record { params = n; locals = k .method .locals; lines = k .method .lines; read = k .method .read; blocks = k .method .blocks }) ≡ countsOf (numberFed Key.Params st n)
+  unfolding numberFed countsOf modelAnew classAnew methodAnew modelCounted classCounted methodCounted
   number-params n = ap (λ i. ofMethod i Key.Locals (record { params = n; locals = i .method .locals; lines = i .method .lines; read = i .method .read; blocks = i .method .blocks })) e
 
-  pub number-locals : (n : ℕ) → ofMethod k Key.Lines (record { params = k .method .params; locals = n; lines = k .method .lines; read = k .method .read; blocks = k .method .blocks }) ≡ counted (numbered Key.Locals st n)
-  unfolding numbered counted withModel withClass withMethod modelCounted classCounted methodCounted
+  pub number-locals : (n : ℕ) → ofMethod k Key.Lines (record { params = k .method .params; locals = n; lines = k .method .lines; read = k .method .read; blocks = k .method .blocks }) ≡ countsOf (numberFed Key.Locals st n)
+  unfolding numberFed countsOf modelAnew classAnew methodAnew modelCounted classCounted methodCounted
   number-locals n = ap (λ i. ofMethod i Key.Lines (record { params = i .method .params; locals = n; lines = i .method .lines; read = i .method .read; blocks = i .method .blocks })) e
 
   -- nothing comes of a number where none is asked for
-  pub number-code : (n : ℕ) → k ≡ counted (numbered Key.Code st n)
-  unfolding numbered
+  pub number-code : (n : ℕ) → k ≡ countsOf (numberFed Key.Code st n)
+  unfolding numberFed
   number-code n = e
 
-  pub number-end : (n : ℕ) → k ≡ counted (numbered Key.End st n)
-  unfolding numbered
+  pub number-end : (n : ℕ) → k ≡ countsOf (numberFed Key.End st n)
+  unfolding numberFed
   number-end n = e
 
   -- the key that was told is the state's
-  pub of-key : (told : Key) (n : ℕ) → k .key ≡ told → counted (numbered told st n) ≡ counted (numbered (st .key) st n)
-  unfolding counted
-  of-key told n t = ap (λ key. counted (numbered key st n)) (sym t ∙ ap (λ i. i .key) e)
+  pub of-key : (told : Key) (n : ℕ) → k .key ≡ told → countsOf (numberFed told st n) ≡ countsOf (numberFed (st .key) st n)
+  unfolding countsOf
+  of-key told n t = ap (λ key. countsOf (numberFed key st n)) (sym t ∙ ap (λ i. i .key) e)
 
   -- a code line joins its method
-  pub line-joined : (at : ℕ) (c : Code) (bs : List Block) (blocks : ℕ) → blocks ≡ packed bs
-      → ofMethod k Key.Code (lineMore (k .method) blocks) ≡ counted (lineJoined at st c bs)
+  pub line-joined : (at : ℕ) (c : Code) (bs : List Block) (blocks : ℕ) → blocks ≡ packedBlocks bs
+      → ofMethod k Key.Code (lineMore (k .method) blocks) ≡ countsOf (lineJoined at st c bs)
   unfolding lineJoined
   line-joined at c bs blocks f =
       ap (λ i. ofMethod i Key.Code (lineMore (i .method) blocks)) e
-      ∙ ap (λ b. ofMethod (counted st) Key.Code (lineMore (counted st .method) b)) f
-      ∙ ap (λ m. ofMethod (ofModel (counted st) Key.Code m) Key.Code (lineMore (counted st .method) (packed bs))) (sym (creations-joined st at c))
-      ∙ ap (ofMethod (ofModel (counted st) Key.Code (modelCounted (creationsJoined at st c))) Key.Code) (sym (code-joined st c bs))
+      ∙ ap (λ b. ofMethod (countsOf st) Key.Code (lineMore (countsOf st .method) b)) f
+      ∙ ap (λ m. ofMethod (ofModel (countsOf st) Key.Code m) Key.Code (lineMore (countsOf st .method) (packedBlocks bs))) (sym (creations-joined st at c))
+      ∙ ap (ofMethod (ofModel (countsOf st) Key.Code (modelCounted (creationsJoined at st c))) Key.Code) (sym (code-joined st c bs))
       ∙ ap (λ i. ofMethod i Key.Code (methodCounted (codeJoined st c bs))) (sym (with-model st Key.Code (creationsJoined at st c)))
-      ∙ sym (with-method (withModel st Key.Code (creationsJoined at st c)) Key.Code (codeJoined st c bs))
+      ∙ sym (with-method (modelAnew st Key.Code (creationsJoined at st c)) Key.Code (codeJoined st c bs))
 
   pub stated-last : (at : ℕ) (c : Code) (bs : List Block) → isLast k ≡ true → methodClosed (lineJoined at st c bs) ≡ stated at st c bs
   unfolding stated

@@ -12,20 +12,20 @@ use Rattle.model.specs.declared.Counts.{Counts}
 use Rattle.model.specs.declared.Key.{Key}
 use Rattle.model.specs.declared.Key.the-variants as Key
 use Rattle.model.specs.declared.Row.{Row}
-use Rattle.model.specs.Automaton.{State, modelCounted, classCounted, methodCounted, counted, withModel, withClass, classJoined, classClosed, nextMethod}
-use Rattle.model.specs.Belonging.{MethodTold, ClassTold}
-use Rattle.model.specs.Counts.{mostClasses, mostMethods, allLines}
-use Rattle.model.specs.Creations.{creationsIn}
-use Rattle.model.specs.Filling.{classPut, partOf, whole, reached, PartHeld, Held}
+use Rattle.model.specs.Vocabulary.Automaton.{State, modelCounted, classCounted, methodCounted, countsOf, modelAnew, classAnew, classJoined, classClosed, nextMethod}
+use Rattle.model.specs.Vocabulary.Belonging.{MethodTold, ClassTold}
+use Rattle.model.specs.Bounds.{mostClasses, mostMethods, allLines}
+use Rattle.model.specs.Vocabulary.Creations.{creationsIn}
+use Rattle.model.specs.Vocabulary.Filling.{classPut, partOf, wholeLines, reached, PartHeld, Held}
 use Rattle.model.specs.Model.{Class}
-use Rattle.model.specs.Table.{Table, put, classRow, size, Rows}
+use Rattle.model.specs.Vocabulary.Table.{Table, put, classRow, tableSize, Rows}
 use Rattle.model.proofs.Framing.{Same, same-class, methods-kept, classes-kept, news-kept}
 use Rattle.model.proofs.Puts.{class-whole, class-open}
 use Rattle.model.proofs.TableRows.{put-length, row-own, append-length, rows-append}
 
 -- what is known after `methods=` and after each method: the class's methods so far are told, and all code lines are
 pub record Between (s : Text) (t : Table) (st : State) : Type 0 where
-  pub all : length t ≡ size
+  pub all : length t ≡ tableSize
   pub classes : st .model .classes ≤ mostClasses
   pub lines : st .model .total ≤ allLines
   pub told : Rows (ClassTold s (st .model .classes) t (st .model .total)) 0 (st .model .done)
@@ -44,7 +44,7 @@ wholeRow st = let c = st .class in record { 0 = c .attrs; 1 = c .given; 2 = c .r
 
 -- which state comes
 module _ (st : State) where
-  method-comes : length (st .class .done) < st .class .methods → nextMethod st ≡ withClass st Key.Method (st .class)
+  method-comes : length (st .class .done) < st .class .methods → nextMethod st ≡ classAnew st Key.Method (st .class)
   unfolding nextMethod
   method-comes h = rw (lt-ltb _ _ h, nextMethod) refl
 
@@ -52,11 +52,11 @@ module _ (st : State) where
   unfolding nextMethod
   none-comes h = rw (le-ltb _ _ h, nextMethod) refl
 
-  class-comes : length (classJoined st .done) < st .model .classes → classClosed st ≡ withModel st Key.Class (classJoined st)
+  class-comes : length (classJoined st .done) < st .model .classes → classClosed st ≡ modelAnew st Key.Class (classJoined st)
   unfolding classClosed
   class-comes h = rw (lt-ltb _ _ h, classClosed) refl
 
-  end-comes : st .model .classes ≤ length (classJoined st .done) → classClosed st ≡ withModel st Key.End (classJoined st)
+  end-comes : st .model .classes ≤ length (classJoined st .done) → classClosed st ≡ modelAnew st Key.End (classJoined st)
   unfolding classClosed
   end-comes h = rw (le-ltb _ _ h, classClosed) refl
 
@@ -67,8 +67,8 @@ module _ (st : State) where
 -- a method comes
 module _ (s : Text) (t : Table) (st : State) (b : Between s t st) where
   method-held : length (st .class .done) < st .class .methods
-      → (let after = withClass st Key.Method (st .class) in Held s t after (counted after))
-  unfolding counted modelCounted classCounted methodCounted withClass partOf whole reached PartHeld
+      → (let after = classAnew st Key.Method (st .class) in Held s t after (countsOf after))
+  unfolding countsOf modelCounted classCounted methodCounted classAnew partOf wholeLines reached PartHeld
   method-held h = record {
     all = b .all;
     classes = b .classes;
@@ -113,14 +113,14 @@ module _ (s : Text) (t : Table) (st : State) (b : Between s t st) where
   unfolding classJoined
   news-told = b .creations ∙ sym (news-kept t closedTable _ 128 512 rows-stay (st .model .total) (b .lines))
 
-  all-stay : length closedTable ≡ size
+  all-stay : length closedTable ≡ tableSize
   unfolding closedTable
   all-stay = put-length t _ (wholeRow st) ∙ b .all
 
   -- the next class comes, or the end
   class-held : length (classJoined st .done) < st .model .classes
-      → (let after = withModel st Key.Class (classJoined st) in Held s closedTable after (counted after))
-  unfolding counted modelCounted classCounted methodCounted withModel classJoined partOf whole reached PartHeld
+      → (let after = modelAnew st Key.Class (classJoined st) in Held s closedTable after (countsOf after))
+  unfolding countsOf modelCounted classCounted methodCounted modelAnew classJoined partOf wholeLines reached PartHeld
   class-held h = record {
     all = all-stay;
     classes = b .classes;
@@ -131,8 +131,8 @@ module _ (s : Text) (t : Table) (st : State) (b : Between s t st) where
   }
 
   end-held : st .model .classes ≤ length (classJoined st .done)
-      → (let after = withModel st Key.End (classJoined st) in Held s closedTable after (counted after))
-  unfolding counted modelCounted classCounted methodCounted withModel classJoined partOf whole reached PartHeld
+      → (let after = modelAnew st Key.End (classJoined st) in Held s closedTable after (countsOf after))
+  unfolding countsOf modelCounted classCounted methodCounted modelAnew classJoined partOf wholeLines reached PartHeld
   end-held h = record {
     all = all-stay;
     classes = b .classes;
@@ -144,29 +144,29 @@ module _ (s : Text) (t : Table) (st : State) (b : Between s t st) where
 
   -- the row that is put is the class's
   closed-put : (before : Counts) (key : Key) → before .model .read ≡ length (st .model .done)
-      → classPut before (counted (withModel st key (classJoined st))) t ≡ closedTable
-  unfolding counted modelCounted classCounted methodCounted withModel classJoined closedTable wholeRow
+      → classPut before (countsOf (modelAnew st key (classJoined st))) t ≡ closedTable
+  unfolding countsOf modelCounted classCounted methodCounted modelAnew classJoined closedTable wholeRow
   closed-put before key e =
-      let after = counted (withModel st key (classJoined st)) in
+      let after = countsOf (modelAnew st key (classJoined st)) in
       let more = one-class-more st in
       class-whole before after t (omega (arith, e, more))
       ∙ ap (λ i. put t (classRow i) (wholeRow st)) e
 
   open-put : (before : Counts) → before .model .read ≡ length (st .model .done)
-      → classPut before (counted (withClass st Key.Method (st .class))) t ≡ t
-  unfolding counted modelCounted withClass
-  open-put before e = class-open before (counted (withClass st Key.Method (st .class))) t (omega (arith, e))
+      → classPut before (countsOf (classAnew st Key.Method (st .class))) t ≡ t
+  unfolding countsOf modelCounted classAnew
+  open-put before e = class-open before (countsOf (classAnew st Key.Method (st .class))) t (omega (arith, e))
 
   -- what comes after `methods=` and after each method is told
   pub next-held : (before : Counts) → before .model .read ≡ length (st .model .done)
-      → (let after = nextMethod st in Held s (classPut before (counted after) t) after (counted after))
+      → (let after = nextMethod st in Held s (classPut before (countsOf after) t) after (countsOf after))
   next-held before e = go (ltb (length (st .class .done)) (st .class .methods)) refl (ltb (length (classJoined st .done)) (st .model .classes)) refl
     where
       Told : State → Table → Type 0
-      Told after u = Held s u after (counted after)
+      Told after u = Held s u after (countsOf after)
 
       go : (m : Bool) → ltb (length (st .class .done)) (st .class .methods) ≡ m → (c : Bool) → ltb (length (classJoined st .done)) (st .model .classes) ≡ c
-          → Told (nextMethod st) (classPut before (counted (nextMethod st)) t)
+          → Told (nextMethod st) (classPut before (countsOf (nextMethod st)) t)
       go true f c g =
           let l = ltb-true _ _ f in
           rw (method-comes st l, open-put before e) (method-held l)

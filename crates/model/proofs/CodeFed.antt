@@ -14,10 +14,11 @@ use Rattle.code.specs.declared.ReadCode.{ReadCode}
 use Rattle.code.specs.declared.ReadStatement.the-variants as Read
 use Rattle.code.specs.declared.Statement as Declared
 use Rattle.code.specs.Blocks.{shapeOf}
-use Rattle.code.specs.Creating.{newOf, newSaid}
-use Rattle.code.specs.OpenBlocks.{shapeSaid}
+use Rattle.code.specs.Vocabulary.Creating.{newSaid}
+use Rattle.code.specs.Statements.{newOf}
+use Rattle.code.specs.Vocabulary.OpenBlocks.{shapeSaid}
 use Rattle.code.specs.Reader.{statement}
-use Rattle.code.specs.Readers.{statementRead}
+use Rattle.code.specs.Vocabulary.Readers.{statementRead}
 use Rattle.code.specs.Statements.{Code}
 use Rattle.code.proofs.NewCounts.{new-class, new-count}
 use Rattle.code.proofs.Told.{told-bad, told-got}
@@ -25,9 +26,9 @@ use Rattle.model.specs.declared.Counts.{Counts}
 use Rattle.model.specs.declared.Fed as Fed
 use Rattle.model.specs.declared.Fed.the-variants as Next
 use Rattle.model.specs.declared.Key.the-variants as Key
-use Rattle.model.specs.Automaton.{State, modelCounted, classCounted, methodCounted, counted, limitsOf, codeLine, blockLine, refused, asFed}
-use Rattle.model.specs.Filling.{limitsCounted, linePut, filledBy, Held, HeldAfter, TellsAfter}
-use Rattle.model.specs.Table.{Table}
+use Rattle.model.specs.Vocabulary.Automaton.{State, modelCounted, classCounted, methodCounted, countsOf, limitsOf, codeLine, blockLine, refused, asFed}
+use Rattle.model.specs.Vocabulary.Filling.{limitsCounted, linePut, filledBy, Held, HeldAfter, TellsAfter}
+use Rattle.model.specs.Vocabulary.Table.{Table}
 use Rattle.model.proofs.LinesHeld.{code-held}
 
 -- the length of a part of the text
@@ -43,16 +44,16 @@ module _ (at : ℕ) (st : State) (value : Text) where
   unfolding codeLine
   code-fed p c e = rw (e, codeLine) refl
 
-limits-same : (st : State) → limitsCounted (counted st) ≡ limitsOf st
-unfolding limitsCounted counted classCounted methodCounted limitsOf
+limits-same : (st : State) → limitsCounted (countsOf st) ≡ limitsOf st
+unfolding limitsCounted countsOf classCounted methodCounted limitsOf
 limits-same st = refl
 
-classes-same : (st : State) → counted st .model .classes ≡ st .model .classes
-unfolding counted modelCounted
+classes-same : (st : State) → countsOf st .model .classes ≡ st .model .classes
+unfolding countsOf modelCounted
 classes-same st = refl
 
 -- what the code read of a value, with no cells lent
-module _ (cells : Cells) (a : Around) (k : Counts) (st : State) (e : k ≡ counted st) (l : a .limits ≡ limitsCounted k)
+module _ (cells : Cells) (a : Around) (k : Counts) (st : State) (e : k ≡ countsOf st) (l : a .limits ≡ limitsCounted k)
     (value : Text) (r : ReadCode) (q : r ≡ statementRead cells a (k .model .classes) value) where
   reading-same : statement trees guardTrees (a .limits) (k .model .classes) value ≡ statement trees guardTrees (limitsOf st) (st .model .classes) value
   reading-same =
@@ -61,10 +62,10 @@ module _ (cells : Cells) (a : Around) (k : Counts) (st : State) (e : k ≡ count
 
   -- the bounds of a `new`, by which it has a place in the table
   pub new-fits : (said : Declared.Statement) → r .read ≡ Read.Got said → length value ≤ 32768
-      → 0 < counted st .model .classes → counted st .model .classes ≤ 16
+      → 0 < countsOf st .model .classes → countsOf st .model .classes ≤ 16
       → (class n : ℕ) → newSaid said (r .arguments .count) ≡ some (class, n) → (class < 16) × (n < 65536)
   new-fits said g h some-class few class n o =
-      let all : k .model .classes ≡ counted st .model .classes = ap (λ i. i .model .classes) e in
+      let all : k .model .classes ≡ countsOf st .model .classes = ap (λ i. i .model .classes) e in
       let t = told-got cells a (k .model .classes) value r q said g in
       let new : newOf (t .code) ≡ some (class, n) = sym (t .creates) ∙ o in (
         omega (arith, new-class trees guardTrees (a .limits) (k .model .classes) value _ (t .code) (class, n) (t .tree) new (omega arith)),
@@ -78,9 +79,9 @@ module _ (cells : Cells) (a : Around) (k : Counts) (st : State) (e : k ≡ count
       (sym (ap asFed f), subst (HeldAfter s t) (sym f) tt)
 
 -- a value that was read, at its place in the text
-module _ (cells : Cells) (a : Around) (k : Counts) (st : State) (e : k ≡ counted st) (l : a .limits ≡ limitsCounted k)
+module _ (cells : Cells) (a : Around) (k : Counts) (st : State) (e : k ≡ countsOf st) (l : a .limits ≡ limitsCounted k)
     (s : Text) (place long : ℕ) (w : place + long ≤ length s) (r : ReadCode) (q : r ≡ statementRead cells a (k .model .classes) (take long (drop place s)))
-    (t u : Table) (h : Held s t st (counted st)) (c : st .key ≡ Key.Code) where
+    (t u : Table) (h : Held s t st (countsOf st)) (c : st .key ≡ Key.Code) where
   pub code-tells : (said : Declared.Statement) → r .read ≡ Read.Got said → (at : ℕ) (f : Fed.Fed)
       → ((code : Code) → shapeSaid said ≡ shapeOf code → f ≡ asFed (blockLine at st code))
       → u ≡ filledBy f (λ after. linePut k after at place long (newSaid said (r .arguments .count))) t
@@ -92,11 +93,11 @@ module _ (cells : Cells) (a : Around) (k : Counts) (st : State) (e : k ≡ count
       sym (reading-same cells a k st e l value r q) ∙ x .tree ∙ ap (λ n. got n (x .code)) (part-length s place long w) in
       let b0 = b (x .code) (x .shape) in
       let line = code-fed at st value long (x .code) tree in
-      let same : u ≡ filledBy (asFed (blockLine at st (x .code))) (λ after. linePut (counted st) after at place long (newOf (x .code))) t =
+      let same : u ≡ filledBy (asFed (blockLine at st (x .code))) (λ after. linePut (countsOf st) after at place long (newOf (x .code))) t =
       v
       ∙ ap (λ i. filledBy i (λ after. linePut k after at place long (newSaid said (r .arguments .count))) t) b0
       ∙ ap (λ i. filledBy (asFed (blockLine at st (x .code))) (λ after. linePut i after at place long (newSaid said (r .arguments .count))) t) e
-      ∙ ap (λ o. filledBy (asFed (blockLine at st (x .code))) (λ after. linePut (counted st) after at place long o) t) (x .creates) in (
+      ∙ ap (λ o. filledBy (asFed (blockLine at st (x .code))) (λ after. linePut (countsOf st) after at place long o) t) (x .creates) in (
         b0 ∙ sym (ap asFed line),
         subst (HeldAfter s u) (sym line) (subst (λ y. HeldAfter s y (blockLine at st (x .code))) (sym same) (code-held s t st at place long (x .code) h c w tree)),
       )

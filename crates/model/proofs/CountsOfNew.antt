@@ -11,12 +11,12 @@ use lib.Dec.{eqb}
 use lib.ListN.{length, getElem?}
 use Rattle.whole.specs.Refusals.{accepted, wrongCode}
 use Rattle.terms.specs.Bytes.{Text}
-use Rattle.model.specs.Automaton.{Creation}
-use Rattle.model.specs.Belonging.{ClassTold}
-use Rattle.model.specs.Creations.{creationTold, creationsFrom, newFits}
+use Rattle.model.specs.Vocabulary.Automaton.{Creation}
+use Rattle.model.specs.Vocabulary.Belonging.{ClassTold}
+use Rattle.model.specs.Vocabulary.Creations.{creationTold, creationsFrom, newFits}
 use Rattle.model.specs.Judge.{givenTo, countsJudged, model, refusal, verdictOf}
 use Rattle.model.specs.Model.{Class, Model}
-use Rattle.model.specs.Table.{Table, Rows, rowOf, classRow, codeRow}
+use Rattle.model.specs.Vocabulary.Table.{Table, Rows, rowAt, classRow, codeRow}
 use Rattle.model.specs.declared.Row.{Row}
 use Rattle.model.proofs.TableRows.{rows-at}
 
@@ -43,7 +43,7 @@ module _ (m : Model) (k : ℕ) where
 
 -- the second number of its row is what a class is to be given
 pub given-told : (s : Text) (n : ℕ) (t : Table) (filled : ℕ) (m : Model) (k : ℕ)
-    → Rows (ClassTold s n t filled) 0 m → k < length m → givenTo m k ≡ rowOf t (classRow k) .1
+    → Rows (ClassTold s n t filled) 0 m → k < length m → givenTo m k ≡ rowAt t (classRow k) .1
 unfolding ClassTold
 given-told s n t filled m k told h =
     let c = item-at m k h in
@@ -88,13 +88,13 @@ module _ (m : Model) (at : ℕ) (cs : List Creation) where
 
 -- the code row at a place, with those after it
 module _ (t : Table) (m : Model) (i total : ℕ) (within : i < total) where
-  row-first : creationsFrom t i (total - i) ≡ (let x = rowOf t (codeRow i) in creationTold (x .2) (x .3)) ++ creationsFrom t (i + 1) (total - (i + 1))
+  row-first : creationsFrom t i (total - i) ≡ (let x = rowAt t (codeRow i) in creationTold (x .2) (x .3)) ++ creationsFrom t (i + 1) (total - (i + 1))
   unfolding creationsFrom
   row-first =
       let e : total - i ≡ suc (total - (i + 1)) = omega arith in
       rw (e, add-one) refl
 
-  module _ (x : Row) (own : x ≡ rowOf t (codeRow i)) where
+  module _ (x : Row) (own : x ≡ rowAt t (codeRow i)) where
     pub counts-onward : newFits m (x .3) ≡ true → countsJudged m (creationsFrom t i (total - i)) ≡ countsJudged m (creationsFrom t (i + 1) (total - (i + 1)))
     counts-onward e = ap (countsJudged m) row-first ∙ told-onward m _ _ _ (rw own at e)
 

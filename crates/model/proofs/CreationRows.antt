@@ -6,11 +6,11 @@ use mathlib.Core.Path.{_≡_, refl, ap, _∙_}
 use native.Mathlib.Nat.{add-zero, zero-add}
 use native.Mathlib.Numerals.{add-one}
 use native.Mathlib.Omega.{arith}
-use Rattle.code.specs.Creating.{newOf}
+use Rattle.code.specs.Statements.{newOf}
 use Rattle.code.specs.Statements.{Code}
-use Rattle.model.specs.Automaton.{Creation, creationsOf}
-use Rattle.model.specs.Creations.{newNumber, creationTold, creationsFrom, creationsIn}
-use Rattle.model.specs.Table.{Table, rowOf, codeRow}
+use Rattle.model.specs.Vocabulary.Automaton.{Creation, creationsOf}
+use Rattle.model.specs.Vocabulary.Creations.{newNumber, creationTold, creationsFrom, creationsIn}
+use Rattle.model.specs.Vocabulary.Table.{Table, rowAt, codeRow}
 
 -- the number of a `new` tells its class, which is one of 16, and how many arguments it has
 number-told : (at k n : ℕ) → k < 16 → creationTold at (1 + k + 16 * n) ≡ record { at = at; class = k; count = n } ∷ []
@@ -33,7 +33,7 @@ creation-told at c = go (newOf c)
 
 -- what a row tells
 rowTold : Table → ℕ → List Creation
-rowTold t i = let r = rowOf t (codeRow i) in creationTold (r .2) (r .3)
+rowTold t i = let r = rowAt t (codeRow i) in creationTold (r .2) (r .3)
 
 -- one row more
 from-more : (t : Table) (i n : ℕ) → creationsFrom t i (suc n) ≡ creationsFrom t i n ++ rowTold t (i + n)
@@ -43,6 +43,6 @@ from-more t i (suc n) =
     let e : i + suc n ≡ suc i + n = omega arith in
     rw (e, append-assoc, ← from-more t (suc i) n) refl
 
-pub in-more : (t : Table) (n : ℕ) → creationsIn t (n + 1) ≡ creationsIn t n ++ (let r = rowOf t (codeRow n) in creationTold (r .2) (r .3))
+pub in-more : (t : Table) (n : ℕ) → creationsIn t (n + 1) ≡ creationsIn t n ++ (let r = rowAt t (codeRow n) in creationTold (r .2) (r .3))
 unfolding rowTold
 in-more t n = rw (add-one, from-more, zero-add) refl

@@ -7,11 +7,11 @@ use native.Mathlib.Omega.{arith}
 use lib.Dec.{eqb}
 use lib.ListN.{length, take, drop, drop-of-length-le}
 use Rattle.terms.specs.Bytes.{Text}
-use Rattle.model.specs.Lines.{Line, whole, unended, grown, lines, lineFeed}
+use Rattle.model.specs.Lines.{Line, terminated, unterminated, grown, lines, lineFeed}
 
 -- the first byte of a text is an LF, or not
 module _ (b : ℕ) (s : Text) where
-  pub lines-first : eqb b lineFeed ≡ true → lines (b ∷ s) ≡ whole [] ∷ lines s
+  pub lines-first : eqb b lineFeed ≡ true → lines (b ∷ s) ≡ terminated [] ∷ lines s
   unfolding lines
   lines-first e = rw (e, lines)
 
@@ -20,15 +20,15 @@ module _ (b : ℕ) (s : Text) where
   lines-later e = rw (e, lines)
 
 -- a byte before lines
-pub grown-none : (b : ℕ) → grown b [] ≡ unended (b ∷ []) ∷ []
+pub grown-none : (b : ℕ) → grown b [] ≡ unterminated (b ∷ []) ∷ []
 unfolding grown
 grown-none b = refl
 
-pub grown-whole : (b : ℕ) (l : Text) (ls : List Line) → grown b (whole l ∷ ls) ≡ whole (b ∷ l) ∷ ls
+pub grown-whole : (b : ℕ) (l : Text) (ls : List Line) → grown b (terminated l ∷ ls) ≡ terminated (b ∷ l) ∷ ls
 unfolding grown
 grown-whole b l ls = refl
 
-pub grown-unended : (b : ℕ) (l : Text) (ls : List Line) → grown b (unended l ∷ ls) ≡ unended (b ∷ l) ∷ ls
+pub grown-unended : (b : ℕ) (l : Text) (ls : List Line) → grown b (unterminated l ∷ ls) ≡ unterminated (b ∷ l) ∷ ls
 unfolding grown
 grown-unended b l ls = refl
 
@@ -42,8 +42,8 @@ lines-some b s = go (eqb b lineFeed) refl
   where
     more : (ms : List Line) → (l : Line) × (ls : List Line) × (grown b ms ≡ l ∷ ls)
     more [] = (_, _, grown-none b)
-    more (whole l ∷ ls) = (_, _, grown-whole b l ls)
-    more (unended l ∷ ls) = (_, _, grown-unended b l ls)
+    more (terminated l ∷ ls) = (_, _, grown-whole b l ls)
+    more (unterminated l ∷ ls) = (_, _, grown-unended b l ls)
 
     go : (t : Bool) → eqb b lineFeed ≡ t → (l : Line) × (ls : List Line) × (lines (b ∷ s) ≡ l ∷ ls)
     go true e = (_, _, lines-first b s e)
@@ -61,16 +61,16 @@ front-none b s = record { front = refl; rest = refl; within = omega arith }
 front-more : (b : ℕ) (s l : Text) (ls : List Line) → Front s l ls → Front (b ∷ s) (b ∷ l) ls
 front-more b s l ls f = record { front = ap (λ t. b ∷ t) (f .front); rest = f .rest; within = omega (arith, f .within) }
 
-ungrown : (b : ℕ) (ms : List Line) (l : Text) (ls : List Line) → grown b ms ≡ whole l ∷ ls → (m : Text) × (ms ≡ whole m ∷ ls) × (l ≡ b ∷ m)
+ungrown : (b : ℕ) (ms : List Line) (l : Text) (ls : List Line) → grown b ms ≡ terminated l ∷ ls → (m : Text) × (ms ≡ terminated m ∷ ls) × (l ≡ b ∷ m)
 ungrown b [] l ls e = absurd (let z : _≡_ {A = ℕ} 0 1 = cc (grown-none b) in omega arith)
-ungrown b (whole m ∷ ms) l ls e = (m, cc (grown-whole b m ms), cc (grown-whole b m ms))
-ungrown b (unended m ∷ ms) l ls e = absurd (let z : _≡_ {A = ℕ} 0 1 = cc (grown-unended b m ms) in omega arith)
+ungrown b (terminated m ∷ ms) l ls e = (m, cc (grown-whole b m ms), cc (grown-whole b m ms))
+ungrown b (unterminated m ∷ ms) l ls e = absurd (let z : _≡_ {A = ℕ} 0 1 = cc (grown-unended b m ms) in omega arith)
 
-pub cut-whole : (s l : Text) (ls : List Line) → lines s ≡ whole l ∷ ls → Front s l ls
+pub cut-whole : (s l : Text) (ls : List Line) → lines s ≡ terminated l ∷ ls → Front s l ls
 cut-whole [] l ls e = absurd (let z : _≡_ {A = ℕ} 0 1 = cc lines-none in omega arith)
 cut-whole (b ∷ s) l ls e = go (eqb b lineFeed) refl (cut-whole s)
   where
-    go : (t : Bool) → eqb b lineFeed ≡ t → ((m : Text) (ms : List Line) → lines s ≡ whole m ∷ ms → Front s m ms) → Front (b ∷ s) l ls
+    go : (t : Bool) → eqb b lineFeed ≡ t → ((m : Text) (ms : List Line) → lines s ≡ terminated m ∷ ms → Front s m ms) → Front (b ∷ s) l ls
     go true f more =
         let n : [] ≡ l = cc (lines-first b s f) in
         let k : lines s ≡ ls = cc (lines-first b s f) in

@@ -8,7 +8,8 @@ use lib.ListN.{length}
 use Rattle.code.specs.declared.Shape.{Shape}
 use Rattle.code.specs.declared.Shape.the-variants as Shape
 use Rattle.code.specs.Blocks.{Block, isShape, shapeNumber}
-use Rattle.model.specs.Counts.{isLast, deepest, endsMethod, mayStand, inFirstClass, inRunMethod, mostParams, lowestRun, highestGiven, highestParams}
+use Rattle.model.specs.Vocabulary.Counts.{isLast, endsMethod, mayStand, inFirstClass, inRunMethod, lowestRun, highestGiven, highestParams}
+use Rattle.model.specs.Bounds.{deepest, mostParams}
 use Rattle.model.specs.declared.Counts.{Counts}
 
 module _ (c : Counts) where

@@ -8,17 +8,17 @@ use Rattle.terms.specs.Bytes.{Text}
 use Rattle.terms.specs.declared.Limits.{Limits}
 use Rattle.code.specs.Statements.{Code}
 use Rattle.model.specs.declared.Row.{Row}
-use Rattle.model.specs.Belonging.{CodeTold, MethodTold, ClassTold}
-use Rattle.model.specs.Creations.{creationsFrom, creationsIn}
+use Rattle.model.specs.Vocabulary.Belonging.{CodeTold, MethodTold, ClassTold}
+use Rattle.model.specs.Vocabulary.Creations.{creationsFrom, creationsIn}
 use Rattle.model.specs.Model.{Method, Class}
-use Rattle.model.specs.Table.{Table, rowOf, put, classRow, methodRow, codeRow, Rows}
+use Rattle.model.specs.Vocabulary.Table.{Table, rowAt, put, classRow, methodRow, codeRow, Rows}
 use Rattle.model.proofs.TableRows.{row-other, rows-keep}
 
 -- two tables have the same rows: so many classes', so many methods' of all classes, so many code lines'
 pub record Same (t u : Table) (classes methods lines : ℕ) : Type 0 where
-  pub class : (k : ℕ) → k < classes → rowOf u (classRow k) ≡ rowOf t (classRow k)
-  pub method : (k j : ℕ) → 8 * k + j < methods → rowOf u (methodRow k j) ≡ rowOf t (methodRow k j)
-  pub line : (i : ℕ) → i < lines → rowOf u (codeRow i) ≡ rowOf t (codeRow i)
+  pub class : (k : ℕ) → k < classes → rowAt u (classRow k) ≡ rowAt t (classRow k)
+  pub method : (k j : ℕ) → 8 * k + j < methods → rowAt u (methodRow k j) ≡ rowAt t (methodRow k j)
+  pub line : (i : ℕ) → i < lines → rowAt u (codeRow i) ≡ rowAt t (codeRow i)
 
 -- a table and itself
 pub same-self : (t : Table) (k m l : ℕ) → Same t t k m l
@@ -49,7 +49,7 @@ module _ (t : Table) (x : Row) (k m l : ℕ) where
 
 -- what is told of a text by a table is told by another that has the same rows
 module _ (s : Text) (all : ℕ) (t u : Table) where
-  line-kept : (lim : Limits) (i : ℕ) (c : Code) → rowOf u (codeRow i) ≡ rowOf t (codeRow i) → CodeTold s all t lim i c → CodeTold s all u lim i c
+  line-kept : (lim : Limits) (i : ℕ) (c : Code) → rowAt u (codeRow i) ≡ rowAt t (codeRow i) → CodeTold s all t lim i c → CodeTold s all u lim i c
   unfolding CodeTold
   line-kept lim i c e h = rw e h
 
@@ -63,7 +63,7 @@ module _ (s : Text) (all : ℕ) (t u : Table) (f g : ℕ) where
       → MethodTold s all t f attrs class j o → MethodTold s all u g attrs class j o
   unfolding MethodTold
   method-kept k m l attrs class j o a b c d h =
-      let r = rowOf t (methodRow class j) in
+      let r = rowAt t (methodRow class j) in
       let lim : Limits = record { attrs = attrs; locals = o .locals } in
       rw (a .method class j d)
       (h .0, h .1, h .2, omega arith, lines-kept s all t u k m l lim (r .3) (o .code) a (omega arith) (h .4))

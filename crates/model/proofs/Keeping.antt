@@ -10,17 +10,18 @@ use Rattle.terms.specs.Bytes.{Text}
 use Rattle.terms.specs.Parsed.{got}
 use Rattle.terms.specs.Trees.{trees, guardTrees}
 use Rattle.code.specs.Blocks.{Block}
-use Rattle.code.specs.Creating.{newOf}
+use Rattle.code.specs.Statements.{newOf}
 use Rattle.code.specs.Reader.{statement}
 use Rattle.code.specs.Statements.{Code}
 use Rattle.model.specs.declared.Key.{Key}
 use Rattle.model.specs.declared.Key.the-variants as Key
-use Rattle.model.specs.Automaton.{InClass, InMethod, State, begin, freshModel, modelCounted, classCounted, methodCounted, counted, withModel, withClass, withMethod, methodsBegun, linesCounted, linesBegun, numbered, codeJoined, creationsJoined, lineJoined, methodJoined, methodClosed, stated, limitsOf}
-use Rattle.model.specs.Belonging.{ClassTold, MethodTold, Belongs}
-use Rattle.model.specs.Counts.{lowest, highest, highestLines, mostLines, allLines, isLast}
-use Rattle.model.specs.Creations.{creationsFrom, creationsIn}
-use Rattle.model.specs.Filling.{classPut, methodPut, linePut, partOf, whole, reached, atStart, inClass, inMethod, inCode, atEnd, PartHeld, Held, firstLine, thisLine}
-use Rattle.model.specs.Table.{Table, size, Rows}
+use Rattle.model.specs.Vocabulary.Automaton.{InClass, InMethod, State, begin, freshModel, modelCounted, classCounted, methodCounted, countsOf, modelAnew, classAnew, methodAnew, methodsBegun, linesCounted, linesBegun, numberFed, codeJoined, creationsJoined, lineJoined, methodJoined, methodClosed, stated, limitsOf}
+use Rattle.model.specs.Vocabulary.Belonging.{ClassTold, MethodTold, Belongs}
+use Rattle.model.specs.Vocabulary.Counts.{lowest, highest, highestLines, isLast}
+use Rattle.model.specs.Bounds.{mostLines, allLines}
+use Rattle.model.specs.Vocabulary.Creations.{creationsFrom, creationsIn}
+use Rattle.model.specs.Vocabulary.Filling.{classPut, methodPut, linePut, partOf, wholeLines, reached, atStart, inClass, inMethod, inCode, atEnd, PartHeld, Held, firstLine, thisLine}
+use Rattle.model.specs.Vocabulary.Table.{Table, tableSize, Rows}
 use Rattle.model.proofs.Changes.{stated-last, stated-before}
 use Rattle.model.proofs.Closing.{Between, next-held}
 use Rattle.model.proofs.CodeRows.{AtLine, Lined, at-line, lined, lineTable}
@@ -31,14 +32,14 @@ use Rattle.model.proofs.Parts.{Known, known-in, held-in}
 use Rattle.model.proofs.TableRows.{append-length}
 
 -- a line that makes no class whole puts no row of a class
-quiet : (s : Text) (t : Table) (st after : State) → length (after .model .done) ≤ length (st .model .done) → Held s t after (counted after)
-    → Held s (classPut (counted st) (counted after) t) after (counted after)
-unfolding counted modelCounted
-quiet s t st after l h = rw (class-open (counted st) (counted after) t l) h
+quiet : (s : Text) (t : Table) (st after : State) → length (after .model .done) ≤ length (st .model .done) → Held s t after (countsOf after)
+    → Held s (classPut (countsOf st) (countsOf after) t) after (countsOf after)
+unfolding countsOf modelCounted
+quiet s t st after l h = rw (class-open (countsOf st) (countsOf after) t l) h
 
 -- nothing is told at first
-pub begin-held : (s : Text) (t : Table) → length t ≡ size → Held s t begin (counted begin)
-unfolding begin freshModel counted modelCounted partOf reached whole PartHeld Rows creationsFrom
+pub begin-held : (s : Text) (t : Table) → length t ≡ tableSize → Held s t begin (countsOf begin)
+unfolding begin freshModel countsOf modelCounted partOf reached wholeLines PartHeld Rows creationsFrom
 begin-held s t e = record {
   all = e;
   classes = omega arith;
@@ -50,42 +51,42 @@ begin-held s t e = record {
 
 -- at the end all classes are told, with all their code lines
 at-end : (s : Text) (t : Table) (st : State) → Known atEnd s t st → Belongs s t (st .model .done)
-unfolding counted modelCounted whole PartHeld Belongs
+unfolding countsOf modelCounted wholeLines PartHeld Belongs
 at-end s t st k =
     let n = st .model .classes in
     let told = classes-kept s n t t (st .model .total) allLines n 128 512 (st .model .done) (same-self t n 128 512) (k .lines) (k .lines) (omega (arith, k .part)) (omega (arith, k .classes)) (k .told) in
     rw (k .part) told
 
-pub held-belongs : (s : Text) (t : Table) (st : State) → Held s t st (counted st) → st .key ≡ Key.End → Belongs s t (st .model .done)
+pub held-belongs : (s : Text) (t : Table) (st : State) → Held s t st (countsOf st) → st .key ≡ Key.End → Belongs s t (st .model .done)
 unfolding partOf
 held-belongs s t st h e = at-end s t st (known-in s t st atEnd (ap partOf e) h)
 
 module _ (s : Text) (t : Table) (st : State) where
   -- `creol=`, and `classes=`: no class is read yet
-  keep-creol : (n : ℕ) → Known atStart s t st → (let after = numbered Key.Creol st n in Held s t after (counted after))
-  unfolding numbered withModel counted modelCounted partOf reached whole PartHeld
+  keep-creol : (n : ℕ) → Known atStart s t st → (let after = numberFed Key.Creol st n in Held s t after (countsOf after))
+  unfolding numberFed modelAnew countsOf modelCounted partOf reached wholeLines PartHeld
   keep-creol n k = held-in s t _ atStart refl (record { all = k .all; classes = k .classes; lines = k .lines; told = k .told; creations = k .creations; part = k .part })
 
-  keep-classes : (n : ℕ) → Known atStart s t st → 1 ≤ n → n ≤ 16 → (let after = numbered Key.Classes st n in Held s t after (counted after))
-  unfolding numbered withModel counted modelCounted partOf reached whole PartHeld Rows
+  keep-classes : (n : ℕ) → Known atStart s t st → 1 ≤ n → n ≤ 16 → (let after = numberFed Key.Classes st n in Held s t after (countsOf after))
+  unfolding numberFed modelAnew countsOf modelCounted partOf reached wholeLines PartHeld Rows
   keep-classes n k l m =
       held-in s t _ inClass refl
       (record { all = k .all; classes = m; lines = k .lines; told = rw (k .part) tt; creations = k .creations; part = rw (k .part) l })
 
   -- a number of a class, and a number of a method
   keep-class : (key : Key) (c : InClass) → partOf key ≡ inClass → Known inClass s t st
-      → (let after = withClass st key c in Held s t after (counted after))
-  unfolding withClass counted modelCounted reached whole PartHeld
+      → (let after = classAnew st key c in Held s t after (countsOf after))
+  unfolding classAnew countsOf modelCounted reached wholeLines PartHeld
   keep-class key c e k = held-in s t _ inClass e (record { all = k .all; classes = k .classes; lines = k .lines; told = k .told; creations = k .creations; part = k .part })
 
   keep-method : (key : Key) (o : InMethod) → partOf key ≡ inMethod → Known inMethod s t st
-      → (let after = withMethod st key o in Held s t after (counted after))
-  unfolding withMethod counted modelCounted classCounted reached whole PartHeld
+      → (let after = methodAnew st key o in Held s t after (countsOf after))
+  unfolding methodAnew countsOf modelCounted classCounted reached wholeLines PartHeld
   keep-method key o e k = held-in s t _ inMethod e (record { all = k .all; classes = k .classes; lines = k .lines; told = k .told; creations = k .creations; part = k .part })
 
   -- `methods=`: none is read yet
-  methods-between : (n : ℕ) → Known inClass s t st → n ≤ 8 → Between s t (withClass st Key.Method (methodsBegun st n))
-  unfolding withClass methodsBegun counted modelCounted reached whole PartHeld Rows
+  methods-between : (n : ℕ) → Known inClass s t st → n ≤ 8 → Between s t (classAnew st Key.Method (methodsBegun st n))
+  unfolding classAnew methodsBegun countsOf modelCounted reached wholeLines PartHeld Rows
   methods-between n k m = record {
     all = k .all;
     classes = k .classes;
@@ -99,18 +100,18 @@ module _ (s : Text) (t : Table) (st : State) where
   }
 
   keep-methods : (n : ℕ) → Known inClass s t st → n ≤ 8
-      → (let after = numbered Key.Methods st n in Held s (classPut (counted st) (counted after) t) after (counted after))
-  unfolding numbered withClass counted modelCounted
-  keep-methods n k m = next-held s t (withClass st Key.Method (methodsBegun st n)) (methods-between n k m) (counted st) refl
+      → (let after = numberFed Key.Methods st n in Held s (classPut (countsOf st) (countsOf after) t) after (countsOf after))
+  unfolding numberFed classAnew countsOf modelCounted
+  keep-methods n k m = next-held s t (classAnew st Key.Method (methodsBegun st n)) (methods-between n k m) (countsOf st) refl
 
   -- `lines=`: none is read yet, and the lines before are as many as were counted
-  lines-room : (n : ℕ) → n ≤ highestLines (counted st) → st .model .total ≤ allLines → (n ≤ mostLines) × (st .model .total + n ≤ allLines)
-  unfolding highestLines counted modelCounted
+  lines-room : (n : ℕ) → n ≤ highestLines (countsOf st) → st .model .total ≤ allLines → (n ≤ mostLines) × (st .model .total + n ≤ allLines)
+  unfolding highestLines countsOf modelCounted
   lines-room n h b = (omega arith, omega arith)
 
   keep-lines : (n : ℕ) → Known inMethod s t st → 1 ≤ n → n ≤ mostLines → st .model .total + n ≤ allLines
-      → (let after = numbered Key.Lines st n in Held s t after (counted after))
-  unfolding numbered withModel withMethod linesCounted linesBegun counted modelCounted classCounted methodCounted partOf reached whole PartHeld firstLine thisLine Rows
+      → (let after = numberFed Key.Lines st n in Held s t after (countsOf after))
+  unfolding numberFed modelAnew methodAnew linesCounted linesBegun countsOf modelCounted classCounted methodCounted partOf reached wholeLines PartHeld firstLine thisLine Rows
   keep-lines n k l m a =
       let e : st .model .total ≡ st .model .total + n - n = omega arith in
       let told = subst (λ f. Rows (ClassTold s (st .model .classes) t f) 0 (st .model .done)) e (k .told) in
@@ -126,9 +127,9 @@ module _ (s : Text) (t : Table) (st : State) where
       })
 
   -- a number, by the key that asks for it
-  keep-asked : (n : ℕ) (key : Key) → st .key ≡ key → Held s t st (counted st) → lowest key (counted st) ≤ n → n ≤ highest key (counted st)
-      → (let after = numbered key st n in Held s (classPut (counted st) (counted after) t) after (counted after))
-  unfolding lowest highest partOf numbered withModel withClass withMethod linesCounted
+  keep-asked : (n : ℕ) (key : Key) → st .key ≡ key → Held s t st (countsOf st) → lowest key (countsOf st) ≤ n → n ≤ highest key (countsOf st)
+      → (let after = numberFed key st n in Held s (classPut (countsOf st) (countsOf after) t) after (countsOf after))
+  unfolding lowest highest partOf numberFed modelAnew classAnew methodAnew linesCounted
   keep-asked n Key.Creol e h l m = quiet s t st _ (omega arith) (keep-creol n (known-in s t st atStart (ap partOf e) h))
   keep-asked n Key.Classes e h l m = quiet s t st _ (omega arith) (keep-classes n (known-in s t st atStart (ap partOf e) h) l m)
   keep-asked n Key.Class e h l m = quiet s t st _ (omega arith) (keep-class Key.Attrs _ refl (known-in s t st inClass (ap partOf e) h))
@@ -147,28 +148,28 @@ module _ (s : Text) (t : Table) (st : State) where
   keep-asked n Key.End e h l m = quiet s t st _ (omega arith) h
 
 -- a number within its range
-pub keep-number : (s : Text) (t : Table) (st : State) (n : ℕ) → Held s t st (counted st)
-    → lowest (st .key) (counted st) ≤ n → n ≤ highest (st .key) (counted st)
-    → (let after = numbered (st .key) st n in Held s (classPut (counted st) (counted after) t) after (counted after))
+pub keep-number : (s : Text) (t : Table) (st : State) (n : ℕ) → Held s t st (countsOf st)
+    → lowest (st .key) (countsOf st) ≤ n → n ≤ highest (st .key) (countsOf st)
+    → (let after = numberFed (st .key) st n in Held s (classPut (countsOf st) (countsOf after) t) after (countsOf after))
 keep-number s t st n h l m = keep-asked s t st n (st .key) refl h l m
 
 -- the test for a method's last line
 module _ (st : State) where
-  last-read : isLast (counted st) ≡ true → length (st .method .done) + 1 ≡ st .method .lines
-  unfolding isLast counted methodCounted
+  last-read : isLast (countsOf st) ≡ true → length (st .method .done) + 1 ≡ st .method .lines
+  unfolding isLast countsOf methodCounted
   last-read e = eqb-true (length (st .method .done) + 1) (st .method .lines) e
 
-  more-to-read : isLast (counted st) ≡ false → length (st .method .done) < st .method .lines → length (st .method .done) + 1 < st .method .lines
-  unfolding isLast counted methodCounted
+  more-to-read : isLast (countsOf st) ≡ false → length (st .method .done) < st .method .lines → length (st .method .done) + 1 < st .method .lines
+  unfolding isLast countsOf methodCounted
   more-to-read e h =
       let n : length (st .method .done) + 1 ≡ st .method .lines → ⊥ = eqb-false (length (st .method .done) + 1) (st .method .lines) e in
       omega arith
 
 -- a code line that is not its method's last: the next one comes
 module _ (s : Text) (t : Table) (st : State) (at : ℕ) (c : Code) (bs : List Block) where
-  keep-line : Known inCode s t st → (u : Table) → AtLine st → Lined s u st at c → isLast (counted st) ≡ false → length bs ≤ 8
-      → (let after = lineJoined at st c bs in Held s u after (counted after))
-  unfolding lineJoined codeJoined creationsJoined withModel withMethod counted modelCounted classCounted methodCounted partOf reached whole PartHeld limitsOf firstLine thisLine
+  keep-line : Known inCode s t st → (u : Table) → AtLine st → Lined s u st at c → isLast (countsOf st) ≡ false → length bs ≤ 8
+      → (let after = lineJoined at st c bs in Held s u after (countsOf after))
+  unfolding lineJoined codeJoined creationsJoined modelAnew methodAnew countsOf modelCounted classCounted methodCounted partOf reached wholeLines PartHeld limitsOf firstLine thisLine
   keep-line k u b d e h =
       let more = append-length (st .method .done) c in
       let next : length (st .method .done ++ (c ∷ [])) < st .method .lines = omega (arith, more-to-read st e (b .line)) in
@@ -183,39 +184,39 @@ module _ (s : Text) (t : Table) (st : State) (at : ℕ) (c : Code) (bs : List Bl
       })
 
   -- it makes no class whole by itself
-  classes-stay : counted st .model .read ≡ length (withClass (lineJoined at st c bs) Key.Method (methodJoined (lineJoined at st c bs)) .model .done)
-  unfolding counted modelCounted lineJoined creationsJoined withModel withClass withMethod
+  classes-stay : countsOf st .model .read ≡ length (classAnew (lineJoined at st c bs) Key.Method (methodJoined (lineJoined at st c bs)) .model .done)
+  unfolding countsOf modelCounted lineJoined creationsJoined modelAnew classAnew methodAnew
   classes-stay = refl
 
   classes-same : length (lineJoined at st c bs .model .done) ≤ length (st .model .done)
-  unfolding lineJoined creationsJoined withModel withMethod
+  unfolding lineJoined creationsJoined modelAnew methodAnew
   classes-same = omega arith
 
   -- the line that is: the method joins its class, and the next one comes or the class is whole
-  keep-last : (u : Table) → AtLine st → Lined s u st at c → isLast (counted st) ≡ true
-      → (let after = methodClosed (lineJoined at st c bs) in Held s (classPut (counted st) (counted after) (methodPut (counted st) u)) after (counted after))
+  keep-last : (u : Table) → AtLine st → Lined s u st at c → isLast (countsOf st) ≡ true
+      → (let after = methodClosed (lineJoined at st c bs) in Held s (classPut (countsOf st) (countsOf after) (methodPut (countsOf st) u)) after (countsOf after))
   unfolding methodClosed
   keep-last u b d e =
       let after = lineJoined at st c bs in
-      next-held s (methodPut (counted st) u) (withClass after Key.Method (methodJoined after)) (method-between s u st at c b d (last-read st e) bs e) (counted st) classes-stay
+      next-held s (methodPut (countsOf st) u) (classAnew after Key.Method (methodJoined after)) (method-between s u st at c b d (last-read st e) bs e) (countsOf st) classes-stay
 
   -- a code line, by the test
   keep-joined : Known inCode s t st → (u : Table) → AtLine st → Lined s u st at c → length bs ≤ 8
-      → (let after = stated at st c bs in Held s (classPut (counted st) (counted after) (methodPut (counted st) u)) after (counted after))
-  keep-joined k u b d h = go (isLast (counted st)) refl
+      → (let after = stated at st c bs in Held s (classPut (countsOf st) (countsOf after) (methodPut (countsOf st) u)) after (countsOf after))
+  keep-joined k u b d h = go (isLast (countsOf st)) refl
     where
-      go : (l : Bool) → isLast (counted st) ≡ l
-          → (let after = stated at st c bs in Held s (classPut (counted st) (counted after) (methodPut (counted st) u)) after (counted after))
-      go true e = rw (sym (stated-last (counted st) st refl at c bs e)) (keep-last u b d e)
+      go : (l : Bool) → isLast (countsOf st) ≡ l
+          → (let after = stated at st c bs in Held s (classPut (countsOf st) (countsOf after) (methodPut (countsOf st) u)) after (countsOf after))
+      go true e = rw (sym (stated-last (countsOf st) st refl at c bs e)) (keep-last u b d e)
       go false e =
-          rw (sym (stated-before (counted st) st refl at c bs e), method-open (counted st) u e)
+          rw (sym (stated-before (countsOf st) st refl at c bs e), method-open (countsOf st) u e)
           (quiet s u st (lineJoined at st c bs) classes-same (keep-line k u b d e h))
 
 -- a code line whose value is a statement
-pub keep-code : (s : Text) (t : Table) (st : State) (at place long : ℕ) (c : Code) (bs : List Block) → Held s t st (counted st) → st .key ≡ Key.Code
+pub keep-code : (s : Text) (t : Table) (st : State) (at place long : ℕ) (c : Code) (bs : List Block) → Held s t st (countsOf st) → st .key ≡ Key.Code
     → place + long ≤ length s → statement trees guardTrees (limitsOf st) (st .model .classes) (take long (drop place s)) ≡ got long c
     → length bs ≤ 8
-    → (let after = stated at st c bs in Held s (linePut (counted st) (counted after) at place long (newOf c) t) after (counted after))
+    → (let after = stated at st c bs in Held s (linePut (countsOf st) (countsOf after) at place long (newOf c) t) after (countsOf after))
 unfolding partOf linePut lineTable
 keep-code s t st at place long c bs h e fits f m =
     let k = known-in s t st inCode (ap partOf e) h in

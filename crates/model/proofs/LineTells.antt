@@ -17,11 +17,11 @@ use Rattle.model.specs.declared.Fed as Declared
 use Rattle.model.specs.declared.Fed.the-variants as Next
 use Rattle.model.specs.declared.Key.{Key}
 use Rattle.model.specs.declared.Key.the-variants as Key
-use Rattle.model.specs.Automaton.{State, modelCounted, counted, numberLine, codeLine, valueLine, feed, Fed, refused, asFed}
-use Rattle.model.specs.Filling.{classPut, filledBy, Part, atStart, inClass, inMethod, inCode, atEnd, partOf, PartHeld, Held, HeldAfter, TellsAfter}
-use Rattle.model.specs.Keys.{nameOf, asked}
-use Rattle.model.specs.Lines.{whole, sound, content}
-use Rattle.model.specs.Table.{Table}
+use Rattle.model.specs.Vocabulary.Automaton.{State, modelCounted, countsOf, numberLine, codeLine, valueLine, feed, Fed, refused, asFed}
+use Rattle.model.specs.Vocabulary.Filling.{classPut, filledBy, Part, atStart, inClass, inMethod, inCode, atEnd, partOf, PartHeld, Held, HeldAfter, TellsAfter}
+use Rattle.model.specs.Vocabulary.Keys.{nameOf, asked}
+use Rattle.model.specs.Lines.{terminated, sound, content}
+use Rattle.model.specs.Vocabulary.Table.{Table}
 use Rattle.model.proofs.LinesHeld.{number-held}
 use Rattle.model.proofs.Parts.{Known, known-in}
 
@@ -44,20 +44,20 @@ number-before-end Key.Lines e f = let z : _≡_ {A = ℕ} 0 1 = cc in omega arit
 
 -- before the end a class more has a row in the table
 module _ (s : Text) (t : Table) (st : State) where
-  few-classes : (p : Part) → (p ≡ atEnd → ⊥) → Known p s t st → counted st .model .read < 16
-  unfolding PartHeld counted modelCounted
+  few-classes : (p : Part) → (p ≡ atEnd → ⊥) → Known p s t st → countsOf st .model .read < 16
+  unfolding PartHeld countsOf modelCounted
   few-classes atStart n k = omega (arith, ap length (k .part))
   few-classes inClass n k = omega (arith, k .part, k .classes)
   few-classes inMethod n k = omega (arith, k .part .0, k .classes)
   few-classes inCode n k = omega (arith, k .part .0, k .classes)
   few-classes atEnd n k = absurd (n refl)
 
-  pub held-few : Held s t st (counted st) → asked (st .key) ≡ Asked.Number → counted st .model .read < 16
+  pub held-few : Held s t st (countsOf st) → asked (st .key) ≡ Asked.Number → countsOf st .model .read < 16
   held-few h e = few-classes (partOf (st .key)) (number-before-end (st .key) e) (known-in s t st (partOf (st .key)) refl h)
 
 -- what the code's key asks for is what the state's asks for
-pub asked-same : (k : Counts) (st : State) (a : Asked) → k ≡ counted st → asked (k .key) ≡ a → asked (st .key) ≡ a
-unfolding counted
+pub asked-same : (k : Counts) (st : State) (a : Asked) → k ≡ countsOf st → asked (k .key) ≡ a → asked (st .key) ≡ a
+unfolding countsOf
 asked-same k st a e f = sym (ap (λ i. asked (i .key)) e) ∙ f
 
 -- a line that is refused
@@ -67,12 +67,12 @@ refused-told s t n f e = (sym (ap asFed e), subst (HeldAfter s t) (sym e) tt)
 
 -- a value by what its key asks for
 module _ (s : Text) (u : Table) (st : State) (at : ℕ) (value : Text) where
-  pub number-tells : (k : Counts) (t : Table) (f : Declared.Fed) → k ≡ counted st → Held s t st (counted st) → asked (st .key) ≡ Asked.Number
+  pub number-tells : (k : Counts) (t : Table) (f : Declared.Fed) → k ≡ countsOf st → Held s t st (countsOf st) → asked (st .key) ≡ Asked.Number
       → f ≡ asFed (numberLine st value) → u ≡ filledBy f (classPut k) t → TellsAfter s f u (valueLine at st (asked (st .key)) value)
   unfolding valueLine
   number-tells k t f e h a b v =
       let line : valueLine at st (asked (st .key)) value ≡ numberLine st value = ap (λ x. valueLine at st x value) a in
-      let same : u ≡ filledBy (asFed (numberLine st value)) (classPut (counted st)) t = v ∙ ap (λ x. filledBy x (classPut k) t) b ∙ ap (λ i. filledBy (asFed (numberLine st value)) (classPut i) t) e in (
+      let same : u ≡ filledBy (asFed (numberLine st value)) (classPut (countsOf st)) t = v ∙ ap (λ x. filledBy x (classPut k) t) b ∙ ap (λ i. filledBy (asFed (numberLine st value)) (classPut i) t) e in (
         b ∙ sym (ap asFed line),
         subst (HeldAfter s u) (sym line) (subst (λ y. HeldAfter s y (numberLine st value)) (sym same) (number-held s t st value h)),
       )
@@ -86,17 +86,17 @@ module _ (s : Text) (u : Table) (st : State) (at : ℕ) (value : Text) where
   nothing-valued a = refused-told s u wrongKey _ (ap (λ x. valueLine at st x value) a)
 
 -- the key that comes next, by its name
-pub named : (k : Counts) (st : State) → k ≡ counted st → (l : Text) → word (nameOf (st .key)) l 0 ≡ word (nameOf (k .key)) l 0
-unfolding counted
+pub named : (k : Counts) (st : State) → k ≡ countsOf st → (l : Text) → word (nameOf (st .key)) l 0 ≡ word (nameOf (k .key)) l 0
+unfolding countsOf
 named k st e l = ap (λ i. word (nameOf (i .key)) l 0) (sym e)
 
 -- a sound line
-module _ (at : ℕ) (st : State) (l : Text) (e : sound (whole l) ≡ true) where
-  pub feed-unkeyed : (p : ℕ) → word (nameOf (st .key)) l 0 ≡ bad p → feed at st (whole l) ≡ refused wrongKey
+module _ (at : ℕ) (st : State) (l : Text) (e : sound (terminated l) ≡ true) where
+  pub feed-unkeyed : (p : ℕ) → word (nameOf (st .key)) l 0 ≡ bad p → feed at st (terminated l) ≡ refused wrongKey
   unfolding feed content
   feed-unkeyed p f = rw (e, f, feed) refl
 
-  pub feed-valued : (p : ℕ) → word (nameOf (st .key)) l 0 ≡ got p tt → feed at st (whole l) ≡ valueLine at st (asked (st .key)) (drop p l)
+  pub feed-valued : (p : ℕ) → word (nameOf (st .key)) l 0 ≡ got p tt → feed at st (terminated l) ≡ valueLine at st (asked (st .key)) (drop p l)
   unfolding feed content
   feed-valued p f = rw (e, f, feed) refl
 

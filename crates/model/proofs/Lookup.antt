@@ -10,10 +10,10 @@ use Rattle.terms.specs.Parsed.{got}
 use Rattle.terms.specs.Trees.{trees, guardTrees}
 use Rattle.code.specs.Reader.{statement}
 use Rattle.code.specs.Statements.{Code}
-use Rattle.model.specs.Belonging.{valueIn, CodeTold, MethodTold, ClassTold, Belongs}
-use Rattle.model.specs.Counts.{allLines, mostMethods}
+use Rattle.model.specs.Vocabulary.Belonging.{valueIn, CodeTold, MethodTold, ClassTold, Belongs}
+use Rattle.model.specs.Bounds.{allLines, mostMethods}
 use Rattle.model.specs.Model.{Method, Class, Model}
-use Rattle.model.specs.Table.{Table, rowOf, classRow, methodRow, codeRow}
+use Rattle.model.specs.Vocabulary.Table.{Table, rowAt, classRow, methodRow, codeRow}
 use Rattle.model.proofs.TableRows.{rows-at}
 
 -- a text, the table that belongs to it, the model that it gives, and a class of it
@@ -22,19 +22,19 @@ module _ (s : Text) (t : Table) (m : Model) (b : Belongs s t m) (k : ℕ) (c : C
   unfolding Belongs
   class-told = subst (λ n. ClassTold s (length m) t allLines n c) (zero-add k) (rows-at _ 0 m k c b e)
 
-  pub attrs-at : rowOf t (classRow k) .0 ≡ c .attrs
+  pub attrs-at : rowAt t (classRow k) .0 ≡ c .attrs
   unfolding ClassTold
   attrs-at = class-told .0
 
-  pub given-at : rowOf t (classRow k) .1 ≡ c .given
+  pub given-at : rowAt t (classRow k) .1 ≡ c .given
   unfolding ClassTold
   given-at = class-told .1
 
-  pub run-at : rowOf t (classRow k) .2 ≡ c .run
+  pub run-at : rowAt t (classRow k) .2 ≡ c .run
   unfolding ClassTold
   run-at = class-told .2
 
-  pub methods-at : rowOf t (classRow k) .3 ≡ length (c .methods)
+  pub methods-at : rowAt t (classRow k) .3 ≡ length (c .methods)
   unfolding ClassTold
   methods-at = class-told .3
 
@@ -49,36 +49,36 @@ module _ (s : Text) (t : Table) (m : Model) (b : Belongs s t m) (k : ℕ) (c : C
     unfolding ClassTold
     method-told = subst (λ n. MethodTold s (length m) t allLines (c .attrs) k n o) (zero-add j) (rows-at _ 0 (c .methods) j o (class-told .5) f)
 
-    pub params-at : rowOf t (methodRow k j) .0 ≡ o .params
+    pub params-at : rowAt t (methodRow k j) .0 ≡ o .params
     unfolding MethodTold
     params-at = method-told .0
 
-    pub locals-at : rowOf t (methodRow k j) .1 ≡ o .locals
+    pub locals-at : rowAt t (methodRow k j) .1 ≡ o .locals
     unfolding MethodTold
     locals-at = method-told .1
 
-    pub lines-at : rowOf t (methodRow k j) .2 ≡ length (o .code)
+    pub lines-at : rowAt t (methodRow k j) .2 ≡ length (o .code)
     unfolding MethodTold
     lines-at = method-told .2
 
     -- every code line of it has a row
-    pub lines-few : rowOf t (methodRow k j) .3 + length (o .code) ≤ allLines
+    pub lines-few : rowAt t (methodRow k j) .3 + length (o .code) ≤ allLines
     unfolding MethodTold
     lines-few = method-told .3
 
     -- a code line of the method
     module _ (i : ℕ) (st : Code) (g : getElem? (o .code) i ≡ some st) where
-      line-told : CodeTold s (length m) t (record { attrs = c .attrs; locals = o .locals }) (rowOf t (methodRow k j) .3 + i) st
+      line-told : CodeTold s (length m) t (record { attrs = c .attrs; locals = o .locals }) (rowAt t (methodRow k j) .3 + i) st
       unfolding MethodTold
-      line-told = rows-at _ (rowOf t (methodRow k j) .3) (o .code) i st (method-told .4) g
+      line-told = rows-at _ (rowAt t (methodRow k j) .3) (o .code) i st (method-told .4) g
 
       -- its bytes lie within the text
-      pub bytes-within : (let r = rowOf t (codeRow (rowOf t (methodRow k j) .3 + i)) in r .0 + r .1 ≤ length s)
+      pub bytes-within : (let r = rowAt t (codeRow (rowAt t (methodRow k j) .3 + i)) in r .0 + r .1 ≤ length s)
       unfolding CodeTold
       bytes-within = line-told .0
 
       -- and, read, they are the statement of the model
-      pub bytes-at : (let r = rowOf t (codeRow (rowOf t (methodRow k j) .3 + i)) in
+      pub bytes-at : (let r = rowAt t (codeRow (rowAt t (methodRow k j) .3 + i)) in
           statement trees guardTrees (record { attrs = c .attrs; locals = o .locals }) (length m) (valueIn s r) ≡ got (r .1) st)
       unfolding CodeTold
       bytes-at = line-told .1

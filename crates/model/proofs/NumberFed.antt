@@ -9,9 +9,10 @@ use Rattle.model.specs.declared.Counts.{Counts}
 use Rattle.model.specs.declared.Key.{Key}
 use Rattle.model.specs.declared.Key.the-variants as Key
 use Rattle.model.specs.declared.NumberLine.the-variants as Number
-use Rattle.model.specs.Automaton.{State, counted, numbered, numberLine, refused, fed}
-use Rattle.model.specs.Counts.{lowest, highest, highestLines}
-use Rattle.model.specs.Numbers.{numberIn, asNumberLine}
+use Rattle.model.specs.Vocabulary.Automaton.{State, countsOf, numberFed, numberLine, refused, fed}
+use Rattle.model.specs.Vocabulary.Counts.{lowest, highest, highestLines}
+use Rattle.model.specs.Numbers.{numberIn}
+use Rattle.model.specs.Vocabulary.NumberLines.{asNumberLine}
 
 -- what the code was given is what the definition gives
 pub number-told : (o : Option ℕ) (n : ℕ) → asNumberLine o ≡ Number.Is n → o ≡ some n
@@ -29,17 +30,17 @@ lines-left k n h t e =
     let j : highestLines k ≤ 64 = unfold highestLines in omega arith in
     omega arith
 
-module _ (k : Counts) (st : State) (e : k ≡ counted st) (value : Text) where
+module _ (k : Counts) (st : State) (e : k ≡ countsOf st) (value : Text) where
   key-same : k .key ≡ st .key
-  unfolding counted
+  unfolding countsOf
   key-same = ap (λ i. i .key) e
 
-  range-same : numberIn (lowest (k .key) k) (highest (k .key) k) value ≡ numberIn (lowest (st .key) (counted st)) (highest (st .key) (counted st)) value
+  range-same : numberIn (lowest (k .key) k) (highest (k .key) k) value ≡ numberIn (lowest (st .key) (countsOf st)) (highest (st .key) (countsOf st)) value
   range-same =
       ap (λ i. numberIn (lowest (i .key) i) (highest (i .key) i) value) e
-      ∙ ap (λ key. numberIn (lowest key (counted st)) (highest key (counted st)) value) (sym (ap (λ i. i .key) e) ∙ key-same)
+      ∙ ap (λ key. numberIn (lowest key (countsOf st)) (highest key (countsOf st)) value) (sym (ap (λ i. i .key) e) ∙ key-same)
 
-  pub number-fed : (n : ℕ) → numberIn (lowest (k .key) k) (highest (k .key) k) value ≡ some n → numberLine st value ≡ fed (numbered (st .key) st n)
+  pub number-fed : (n : ℕ) → numberIn (lowest (k .key) k) (highest (k .key) k) value ≡ some n → numberLine st value ≡ fed (numberFed (st .key) st n)
   unfolding numberLine
   number-fed n f = rw (sym range-same ∙ f, numberLine) refl
 

@@ -4,9 +4,9 @@ use mathlib.Core.Bool.{true, false}
 use mathlib.Core.Path.{_≡_, refl}
 use borrow.Author.Tests.{lt-ltb, le-ltb}
 use Rattle.model.specs.declared.Counts.{Counts}
-use Rattle.model.specs.Counts.{isLast}
-use Rattle.model.specs.Filling.{firstLine, methodPut, classPut}
-use Rattle.model.specs.Table.{Table, put, classRow, methodRow}
+use Rattle.model.specs.Vocabulary.Counts.{isLast}
+use Rattle.model.specs.Vocabulary.Filling.{firstLine, methodPut, classPut}
+use Rattle.model.specs.Vocabulary.Table.{Table, put, classRow, methodRow}
 
 -- a class that is whole, and one that is not
 module _ (before after : Counts) (t : Table) where

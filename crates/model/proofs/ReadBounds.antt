@@ -13,7 +13,7 @@ use Rattle.terms.specs.Leaves.{decimal}
 use Rattle.terms.specs.Parsed.{Parsed, got, bad, word}
 use Rattle.terms.proofs.Digits.{decimal-below}
 use Rattle.terms.proofs.Moving.{within-text, no-got, same-place, word-yes, word-no, word-none}
-use Rattle.model.specs.Keys.{nameOf}
+use Rattle.model.specs.Vocabulary.Keys.{nameOf}
 use Rattle.model.specs.Numbers.{numberIn}
 use Rattle.model.specs.declared.Key.{Key}
 use Rattle.model.specs.declared.Key.the-variants as Key

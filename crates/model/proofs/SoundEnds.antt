@@ -13,15 +13,16 @@ use lib.Seq.{drop-cons, drop-drop}
 use Rattle.terms.specs.Bytes.{Text, byteAt}
 use Rattle.model.specs.declared.LineFound.{LineFound}
 use Rattle.model.specs.declared.LineFound.the-variants as LineFound
-use Rattle.model.specs.Lines.{Line, whole, unended, grown, lines, lineFeed, longestLine, plainByte, plainBytes, sound, content, firstEnd, soundEnd}
+use Rattle.model.specs.Lines.{Line, terminated, unterminated, grown, lines, lineFeed, longestLine, plainByte, plainBytes, sound, content}
+use Rattle.model.specs.Vocabulary.LineEnds.{firstEnd, soundEnd}
 use Rattle.model.proofs.Cutting.{lines-first, lines-later, grown-none, grown-whole, grown-unended, lines-some, cut-whole, line-none}
 use Rattle.model.proofs.Plain.{plain-first, outside-first, plain-unfed, first-plain, both-false}
 
 -- the end of a line that begins at a place, where its bytes before another place are plain: by the lines from there
 unfoldable pub endFrom : ℕ → ℕ → List Line → LineFound
 endFrom at i [] = LineFound.Broken
-endFrom at i (whole l ∷ ls) = elim (leb (i + length l) (at + longestLine) && plainBytes l) [ true ↦ LineFound.Sound (i + length l) | false ↦ LineFound.Broken ]
-endFrom at i (unended l ∷ ls) = LineFound.Broken
+endFrom at i (terminated l ∷ ls) = elim (leb (i + length l) (at + longestLine) && plainBytes l) [ true ↦ LineFound.Sound (i + length l) | false ↦ LineFound.Broken ]
+endFrom at i (unterminated l ∷ ls) = LineFound.Broken
 
 -- a length is within the longest wherever the line begins
 leb-shift : (at n : ℕ) → leb n longestLine ≡ leb (at + n) (at + longestLine)
@@ -34,8 +35,8 @@ leb-shift at n = go (leb n longestLine) refl
 from-start : (at : ℕ) (ls : List Line) → firstEnd at ls ≡ endFrom at at ls
 unfolding firstEnd endFrom sound content
 from-start at [] = refl
-from-start at (whole l ∷ ls) = rw (leb-shift at (length l), firstEnd, endFrom) refl
-from-start at (unended l ∷ ls) = refl
+from-start at (terminated l ∷ ls) = rw (leb-shift at (length l), firstEnd, endFrom) refl
+from-start at (unterminated l ∷ ls) = refl
 
 -- a first line whose rest is plain or not
 module _ (at i : ℕ) where
@@ -43,32 +44,32 @@ module _ (at i : ℕ) where
   unfolding endFrom
   from-none = refl
 
-  from-unended : (l : Text) (ls : List Line) → endFrom at i (unended l ∷ ls) ≡ LineFound.Broken
+  from-unended : (l : Text) (ls : List Line) → endFrom at i (unterminated l ∷ ls) ≡ LineFound.Broken
   unfolding endFrom
   from-unended l ls = refl
 
-  from-outside : (l : Text) (ls : List Line) → plainBytes l ≡ false → endFrom at i (whole l ∷ ls) ≡ LineFound.Broken
+  from-outside : (l : Text) (ls : List Line) → plainBytes l ≡ false → endFrom at i (terminated l ∷ ls) ≡ LineFound.Broken
   unfolding endFrom
   from-outside l ls e = rw (both-false (leb (i + length l) (at + longestLine)) (plainBytes l) e, endFrom) refl
 
   -- too long
   from-long : at + longestLine < i → (ls : List Line) → endFrom at i ls ≡ LineFound.Broken
   from-long h [] = from-none
-  from-long h (whole l ∷ ls) = unfold endFrom in rw (lt-leb (i + length l) (at + longestLine) (omega arith), endFrom) refl
-  from-long h (unended l ∷ ls) = from-unended l ls
+  from-long h (terminated l ∷ ls) = unfold endFrom in rw (lt-leb (i + length l) (at + longestLine) (omega arith), endFrom) refl
+  from-long h (unterminated l ∷ ls) = from-unended l ls
 
   -- an LF
-  from-feed : i ≤ at + longestLine → (ls : List Line) → endFrom at i (whole [] ∷ ls) ≡ LineFound.Sound i
+  from-feed : i ≤ at + longestLine → (ls : List Line) → endFrom at i (terminated [] ∷ ls) ≡ LineFound.Sound i
   unfolding endFrom plainBytes
   from-feed h ls = rw (le-leb (i + 0) (at + longestLine) (omega arith), endFrom) (ap LineFound.Sound (add-zero i))
 
   -- a byte before some lines, outside or plain
   from-grown-outside : (b : ℕ) → ((s : Text) → plainBytes (b ∷ s) ≡ false) → (ls : List Line) → endFrom at i (grown b ls) ≡ LineFound.Broken
   from-grown-outside b h [] = ap (endFrom at i) (grown-none b) ∙ from-unended _ _
-  from-grown-outside b h (whole l ∷ ls) = ap (endFrom at i) (grown-whole b l ls) ∙ from-outside _ _ (h l)
-  from-grown-outside b h (unended l ∷ ls) = ap (endFrom at i) (grown-unended b l ls) ∙ from-unended _ _
+  from-grown-outside b h (terminated l ∷ ls) = ap (endFrom at i) (grown-whole b l ls) ∙ from-outside _ _ (h l)
+  from-grown-outside b h (unterminated l ∷ ls) = ap (endFrom at i) (grown-unended b l ls) ∙ from-unended _ _
 
-  from-more : (b : ℕ) (l : Text) (ls : List Line) → plainByte b ≡ true → endFrom at i (whole (b ∷ l) ∷ ls) ≡ endFrom at (i + 1) (whole l ∷ ls)
+  from-more : (b : ℕ) (l : Text) (ls : List Line) → plainByte b ≡ true → endFrom at i (terminated (b ∷ l) ∷ ls) ≡ endFrom at (i + 1) (terminated l ∷ ls)
   unfolding endFrom
   from-more b l ls h =
       let n : i + suc (length l) ≡ (i + 1) + length l = omega arith in
@@ -78,8 +79,8 @@ module _ (at i : ℕ) where
 module _ (at i b : ℕ) (h : plainByte b ≡ true) where
   from-grown : (ls : List Line) → endFrom at i (grown b ls) ≡ endFrom at (i + 1) ls
   from-grown [] = ap (endFrom at i) (grown-none b) ∙ from-unended at i _ _ ∙ sym (from-none at (i + 1))
-  from-grown (whole l ∷ ls) = ap (endFrom at i) (grown-whole b l ls) ∙ from-more at i b l ls h
-  from-grown (unended l ∷ ls) = ap (endFrom at i) (grown-unended b l ls) ∙ from-unended at i _ _ ∙ sym (from-unended at (i + 1) l ls)
+  from-grown (terminated l ∷ ls) = ap (endFrom at i) (grown-whole b l ls) ∙ from-more at i b l ls h
+  from-grown (unterminated l ∷ ls) = ap (endFrom at i) (grown-unended b l ls) ∙ from-unended at i _ _ ∙ sym (from-unended at (i + 1) l ls)
 
 -- the same by the byte at a place of the text
 module _ (s : Text) (at : ℕ) where
@@ -132,8 +133,8 @@ module _ (s : Text) (at : ℕ) where
 
 -- a sound line: where it ends, and the lines behind it
 pub record SoundLine (s : Text) (at end : ℕ) : Type 0 where
-  pub cut : lines (drop at s) ≡ whole (take (end - at) (drop at s)) ∷ lines (drop (end + 1) s)
-  pub plain : sound (whole (take (end - at) (drop at s))) ≡ true
+  pub cut : lines (drop at s) ≡ terminated (take (end - at) (drop at s)) ∷ lines (drop (end + 1) s)
+  pub plain : sound (terminated (take (end - at) (drop at s))) ≡ true
   pub from : at ≤ end
   pub within : end < length s
 
@@ -154,11 +155,11 @@ module _ (at : ℕ) (l : Line) (ls : List Line) where
   unfolding firstEnd
   first-broken e = rw (e, firstEnd) refl
 
-content-whole : (l : Text) → content (whole l) ≡ l
+content-whole : (l : Text) → content (terminated l) ≡ l
 unfolding content
 content-whole l = refl
 
-sound-unended : (l : Text) → sound (unended l) ≡ false
+sound-unended : (l : Text) → sound (unterminated l) ≡ false
 unfolding sound
 sound-unended l = refl
 
@@ -168,7 +169,7 @@ first-none at = refl
 
 module _ (s : Text) (at : ℕ) where
   -- a whole line from a place on
-  whole-line : (l : Text) (ls : List Line) → lines (drop at s) ≡ whole l ∷ ls → sound (whole l) ≡ true → SoundLine s at (at + length l)
+  whole-line : (l : Text) (ls : List Line) → lines (drop at s) ≡ terminated l ∷ ls → sound (terminated l) ≡ true → SoundLine s at (at + length l)
   whole-line l ls e f =
       let c = cut-whole (drop at s) l ls e in
       let n : (at + length l) - at ≡ length l = omega arith in
@@ -176,8 +177,8 @@ module _ (s : Text) (at : ℕ) where
       let front : take ((at + length l) - at) (drop at s) ≡ l = ap (λ m. take m (drop at s)) n ∙ sym (c .front) in
       let rest : lines (drop ((at + length l) + 1) s) ≡ ls = ap (λ m. lines (drop m s)) k ∙ sym (ap lines (drop-drop (suc (length l)) at s)) ∙ sym (c .rest) in
       record {
-        cut = e ∙ ap (λ t. whole t ∷ ls) (sym front) ∙ ap (λ ms. whole (take ((at + length l) - at) (drop at s)) ∷ ms) (sym rest);
-        plain = ap (λ t. sound (whole t)) front ∙ f;
+        cut = e ∙ ap (λ t. terminated t ∷ ls) (sym front) ∙ ap (λ ms. terminated (take ((at + length l) - at) (drop at s)) ∷ ms) (sym rest);
+        plain = ap (λ t. sound (terminated t)) front ∙ f;
         from = omega arith;
         within = omega (arith, c .within, length-drop at s);
       }
@@ -186,16 +187,16 @@ module _ (s : Text) (at : ℕ) where
   unfolding soundEnd
   sound-found end e = go (lines (drop at s)) refl e
     where
-      tested : (t : Bool) (l : Text) (ls : List Line) → sound (whole l) ≡ t → lines (drop at s) ≡ whole l ∷ ls → firstEnd at (whole l ∷ ls) ≡ LineFound.Sound end → SoundLine s at end
+      tested : (t : Bool) (l : Text) (ls : List Line) → sound (terminated l) ≡ t → lines (drop at s) ≡ terminated l ∷ ls → firstEnd at (terminated l ∷ ls) ≡ LineFound.Sound end → SoundLine s at end
       tested true l ls h f g =
-          let n : at + length l ≡ end = cc (first-sound at (whole l) ls h, content-whole l) in
+          let n : at + length l ≡ end = cc (first-sound at (terminated l) ls h, content-whole l) in
           subst (SoundLine s at) n (whole-line l ls f h)
-      tested false l ls h f g = absurd (let z : _≡_ {A = ℕ} 0 1 = cc (first-broken at (whole l) ls h) in omega arith)
+      tested false l ls h f g = absurd (let z : _≡_ {A = ℕ} 0 1 = cc (first-broken at (terminated l) ls h) in omega arith)
 
       go : (ms : List Line) → lines (drop at s) ≡ ms → firstEnd at ms ≡ LineFound.Sound end → SoundLine s at end
       go [] f g = absurd (let z : _≡_ {A = ℕ} 0 1 = cc (first-none at) in omega arith)
-      go (whole l ∷ ls) f g = tested (sound (whole l)) l ls refl f g
-      go (unended l ∷ ls) f g = absurd (let z : _≡_ {A = ℕ} 0 1 = cc (first-broken at (unended l) ls (sound-unended l)) in omega arith)
+      go (terminated l ∷ ls) f g = tested (sound (terminated l)) l ls refl f g
+      go (unterminated l ∷ ls) f g = absurd (let z : _≡_ {A = ℕ} 0 1 = cc (first-broken at (unterminated l) ls (sound-unended l)) in omega arith)
 
   pub broken-found : soundEnd s at ≡ LineFound.Broken → at < length s → BrokenLine s at
   unfolding soundEnd

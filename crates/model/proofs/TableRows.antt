@@ -7,7 +7,7 @@ use native.Mathlib.Nat.{add-zero}
 use native.Mathlib.Omega.{arith}
 use lib.ListN.{length, getD, set, getElem?, length-set, length-append}
 use lib.Seq.{getD-set-same, getD-set-other}
-use Rattle.model.specs.Table.{Table, width, rows, size, rowOf, put, Rows}
+use Rattle.model.specs.Vocabulary.Table.{Table, width, rows, tableSize, rowAt, put, Rows}
 use Rattle.model.specs.declared.Row.{Row}
 
 -- rows of the same numbers are the same
@@ -20,16 +20,16 @@ module _ (t : Table) (r : ℕ) (x : Row) where
   put-length = simp length-set
 
   -- a row that was put stands in its place
-  pub row-own : length t ≡ size → r < rows → rowOf (put t r x) r ≡ x
-  unfolding rowOf put
+  pub row-own : length t ≡ tableSize → r < rows → rowAt (put t r x) r ≡ x
+  unfolding rowAt put
   row-own l h =
       let at = r * width in
       let t₀ = set t at (x .0) in
       let t₁ = set t₀ (at + 1) (x .1) in
       let t₂ = set t₁ (at + 2) (x .2) in
-      let l₀ : length t₀ ≡ size = simp length-set l in
-      let l₁ : length t₁ ≡ size = simp length-set l in
-      let l₂ : length t₂ ≡ size = simp length-set l in
+      let l₀ : length t₀ ≡ tableSize = simp length-set l in
+      let l₁ : length t₁ ≡ tableSize = simp length-set l in
+      let l₂ : length t₂ ≡ tableSize = simp length-set l in
       row-same _ x
       (getD-set-other t₂ (at + 3) at (x .3) 0 (λ e. omega arith)
       ∙ getD-set-other t₁ (at + 2) at (x .2) 0 (λ e. omega arith)
@@ -55,8 +55,8 @@ module _ (t : Table) (r : ℕ) (x : Row) where
       ∙ getD-set-other t at j (x .0) 0 (λ e. n 0 (omega arith) (omega arith))
 
   -- every other row is as it was
-  pub row-other : (q : ℕ) → (r ≡ q → ⊥) → rowOf (put t r x) q ≡ rowOf t q
-  unfolding rowOf
+  pub row-other : (q : ℕ) → (r ≡ q → ⊥) → rowAt (put t r x) q ≡ rowAt t q
+  unfolding rowAt
   row-other q n =
       row-same _ _
       (number-other (q * width) (λ i l e. n (omega arith)))

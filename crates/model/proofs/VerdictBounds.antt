@@ -13,21 +13,21 @@ use Rattle.terms.specs.Bytes.{Text}
 use Rattle.terms.specs.Parsed.{Parsed, got, bad, word}
 use Rattle.terms.specs.Trees.{trees, guardTrees}
 use Rattle.code.specs.Blocks.{Block, shapeOf, through}
-use Rattle.code.specs.Creating.{newOf}
+use Rattle.code.specs.Statements.{newOf}
 use Rattle.code.specs.Reader.{statement}
 use Rattle.code.specs.Statements.{Code}
 use Rattle.model.specs.declared.Asked.{Asked}
 use Rattle.model.specs.declared.Asked.the-variants as Asked
 use Rattle.model.specs.declared.Key.{Key}
 use Rattle.model.specs.declared.Key.the-variants as Key
-use Rattle.model.specs.Automaton.{Creation, State, begin, freshModel, counted, limitsOf, withModel, withClass, withMethod, classJoined, classClosed, nextMethod, methodJoined, methodClosed, methodsBegun, linesCounted, numbered, numberLine, creationsOf, creationsJoined, lineJoined, stated, blockLine, codeLine, valueLine, feed, Fed, refused, fed}
-use Rattle.model.specs.Counts.{lowest, highest, isLast, mayStand}
+use Rattle.model.specs.Vocabulary.Automaton.{Creation, State, begin, freshModel, countsOf, limitsOf, modelAnew, classAnew, methodAnew, classJoined, classClosed, nextMethod, methodJoined, methodClosed, methodsBegun, linesCounted, numberFed, numberLine, creationsOf, creationsJoined, lineJoined, stated, blockLine, codeLine, valueLine, feed, Fed, refused, fed}
+use Rattle.model.specs.Vocabulary.Counts.{lowest, highest, isLast, mayStand}
 use Rattle.model.specs.Judge.{Judged, refusal, model, givenTo, countsJudged, endJudged, linesJudged, judged, verdictOf, judge}
-use Rattle.model.specs.Keys.{nameOf, asked}
-use Rattle.model.specs.Lines.{Line, whole, unended, grown, lines, lineFeed, sound, content, longestText}
+use Rattle.model.specs.Vocabulary.Keys.{nameOf, asked}
+use Rattle.model.specs.Lines.{Line, terminated, unterminated, grown, lines, lineFeed, sound, content, longestText}
 use Rattle.model.specs.Model.{Model}
 use Rattle.model.specs.Numbers.{numberIn}
-use Rattle.model.specs.Table.{Rows}
+use Rattle.model.specs.Vocabulary.Table.{Rows}
 use Rattle.model.proofs.TableRows.{rows-append, rows-keep}
 
 -- creations that stand at or before a line
@@ -36,26 +36,26 @@ Before at cs = Rows (λ _ c. c .at ≤ at) 0 cs
 
 -- the creations of a state stay, save that a code line adds its own
 next-creations : (st : State) → nextMethod st .model .creations ≡ st .model .creations
-unfolding nextMethod classClosed classJoined withModel withClass
+unfolding nextMethod classClosed classJoined modelAnew classAnew
 next-creations st = go (ltb (length (st .class .done)) (st .class .methods)) (ltb (length (classJoined st .done)) (st .model .classes))
   where
     go : (b d : Bool)
         → (let after : State =
-        elim b [ true ↦ withClass st Key.Method (st .class) | false ↦ elim d [ true ↦ withModel st Key.Class (classJoined st) | false ↦ withModel st Key.End (classJoined st) ] ] in
+        elim b [ true ↦ classAnew st Key.Method (st .class) | false ↦ elim d [ true ↦ modelAnew st Key.Class (classJoined st) | false ↦ modelAnew st Key.End (classJoined st) ] ] in
         after .model .creations ≡ st .model .creations)
     go true d = refl
     go false true = refl
     go false false = refl
 
-numbered-creations : (k : Key) (st : State) (n : ℕ) → numbered k st n .model .creations ≡ st .model .creations
-unfolding numbered withModel withClass withMethod linesCounted
+numbered-creations : (k : Key) (st : State) (n : ℕ) → numberFed k st n .model .creations ≡ st .model .creations
+unfolding numberFed modelAnew classAnew methodAnew linesCounted
 numbered-creations Key.Creol st n = refl
 numbered-creations Key.Classes st n = refl
 numbered-creations Key.Class st n = refl
 numbered-creations Key.Attrs st n = refl
 numbered-creations Key.Given st n = refl
 numbered-creations Key.Run st n = refl
-numbered-creations Key.Methods st n = next-creations (withClass st Key.Method (methodsBegun st n))
+numbered-creations Key.Methods st n = next-creations (classAnew st Key.Method (methodsBegun st n))
 numbered-creations Key.Method st n = refl
 numbered-creations Key.Params st n = refl
 numbered-creations Key.Locals st n = refl
@@ -64,13 +64,13 @@ numbered-creations Key.Code st n = refl
 numbered-creations Key.End st n = refl
 
 stated-creations : (at : ℕ) (st : State) (c : Code) (bs : List Block) → stated at st c bs .model .creations ≡ st .model .creations ++ creationsOf at c
-unfolding stated methodClosed lineJoined creationsJoined withModel withClass withMethod
-stated-creations at st c bs = go (isLast (counted st))
+unfolding stated methodClosed lineJoined creationsJoined modelAnew classAnew methodAnew
+stated-creations at st c bs = go (isLast (countsOf st))
   where
     go : (b : Bool)
         → (let after : State = elim b [ true ↦ methodClosed (lineJoined at st c bs) | false ↦ lineJoined at st c bs ] in
         after .model .creations ≡ st .model .creations ++ creationsOf at c)
-    go true = next-creations (withClass (lineJoined at st c bs) Key.Method (methodJoined (lineJoined at st c bs)))
+    go true = next-creations (classAnew (lineJoined at st c bs) Key.Method (methodJoined (lineJoined at st c bs)))
     go false = refl
 
 creations-before : (at : ℕ) (cs : List Creation) (c : Code) → Before at cs → Before at (cs ++ creationsOf at c)
@@ -90,9 +90,9 @@ Small at (fed st) = Before at (st .model .creations)
 module _ (at : ℕ) (st : State) (h : Before at (st .model .creations)) where
   small-number : (value : Text) → Small at (numberLine st value)
   unfolding numberLine
-  small-number value = go (numberIn (lowest (st .key) (counted st)) (highest (st .key) (counted st)) value)
+  small-number value = go (numberIn (lowest (st .key) (countsOf st)) (highest (st .key) (countsOf st)) value)
     where
-      go : (o : Option ℕ) → Small at (elim o [ some n ↦ fed (numbered (st .key) st n) | none ↦ refused wrongNumber ])
+      go : (o : Option ℕ) → Small at (elim o [ some n ↦ fed (numberFed (st .key) st n) | none ↦ refused wrongNumber ])
       go none = unfold Small in omega arith
       go (some n) = unfold Small in subst (Before at) (sym (numbered-creations (st .key) st n)) h
 
@@ -105,9 +105,9 @@ module _ (at : ℕ) (st : State) (h : Before at (st .model .creations)) where
   small-block c = go (through (shapeOf c) (st .method .blocks))
     where
       go : (o : Option (List Block))
-          → Small at (elim o [ none ↦ refused wrongBlocks | some bs ↦ elim (mayStand (counted st) (shapeOf c) bs) [ true ↦ fed (stated at st c bs) | false ↦ refused wrongBlocks ] ])
+          → Small at (elim o [ none ↦ refused wrongBlocks | some bs ↦ elim (mayStand (countsOf st) (shapeOf c) bs) [ true ↦ fed (stated at st c bs) | false ↦ refused wrongBlocks ] ])
       go none = unfold Small in omega arith
-      go (some bs) = small-standing c bs (mayStand (counted st) (shapeOf c) bs)
+      go (some bs) = small-standing c bs (mayStand (countsOf st) (shapeOf c) bs)
 
   small-code : (value : Text) → Small at (codeLine at st value)
   unfolding codeLine
@@ -178,15 +178,15 @@ within-lines at st (l ∷ ls) h = go (feed at st l) (small-feed at st h l) (λ a
 grown-length : (b : ℕ) (ls : List Line) → length (grown b ls) ≤ suc (length ls)
 unfolding grown
 grown-length b [] = omega arith
-grown-length b (whole l ∷ ls) = omega arith
-grown-length b (unended l ∷ ls) = omega arith
+grown-length b (terminated l ∷ ls) = omega arith
+grown-length b (unterminated l ∷ ls) = omega arith
 
 lines-length : (s : Text) → length (lines s) ≤ length s
 unfolding lines
 lines-length [] = omega arith
 lines-length (b ∷ s) = go (eqb b lineFeed) (lines-length s)
   where
-    go : (t : Bool) → length (lines s) ≤ length s → length {A = Line} (elim t [ true ↦ whole [] ∷ lines s | false ↦ grown b (lines s) ]) ≤ suc (length s)
+    go : (t : Bool) → length (lines s) ≤ length s → length {A = Line} (elim t [ true ↦ terminated [] ∷ lines s | false ↦ grown b (lines s) ]) ≤ suc (length s)
     go true h = omega arith
     go false h = omega (arith, grown-length b (lines s))
 

@@ -15,15 +15,15 @@ use Rattle.model.specs.declared.Counts.{Counts}
 use Rattle.model.specs.declared.Fed.the-variants as Next
 use Rattle.model.specs.declared.Key.{Key}
 use Rattle.model.specs.declared.Key.the-variants as Key
-use Rattle.model.specs.Automaton.{Creation, State, modelCounted, counted, begin, feed, Fed, refused, fed, asFed}
-use Rattle.model.specs.Belonging.{ClassTold, Belongs}
-use Rattle.model.specs.Creations.{creationsIn}
-use Rattle.model.specs.Filling.{atEnd, partOf, whole, reached, PartHeld, Held, HeldAfter}
+use Rattle.model.specs.Vocabulary.Automaton.{Creation, State, modelCounted, countsOf, begin, feed, Fed, refused, fed, asFed}
+use Rattle.model.specs.Vocabulary.Belonging.{ClassTold, Belongs}
+use Rattle.model.specs.Vocabulary.Creations.{creationsIn}
+use Rattle.model.specs.Vocabulary.Filling.{atEnd, partOf, wholeLines, reached, PartHeld, Held, HeldAfter}
 use Rattle.model.specs.Judge.{refusal, model, givenTo, countsJudged, endJudged, linesJudged, judged, verdictOf, judge}
-use Rattle.model.specs.Keys.{asked}
+use Rattle.model.specs.Vocabulary.Keys.{asked}
 use Rattle.model.specs.Lines.{Line, sound, lines, longestText}
 use Rattle.model.specs.Model.{Model}
-use Rattle.model.specs.Table.{Table, Rows}
+use Rattle.model.specs.Vocabulary.Table.{Table, Rows}
 use Rattle.model.proofs.CountsOfNew.{verdict-refusal}
 use Rattle.model.proofs.Keeping.{held-belongs}
 use Rattle.model.proofs.Parts.{Known, known-in}
@@ -33,11 +33,11 @@ pub refused-fed : (f : Fed) (n : ℕ) → asFed f ≡ Next.Refused n → f ≡ r
 refused-fed (refused m) n e = unfold asFed in cc
 refused-fed (fed st) n e = absurd (let z : _≡_ {A = ℕ} 0 1 = unfold asFed in cc in omega arith)
 
-pub next-fed : (f : Fed) (k : Counts) → asFed f ≡ Next.Next k → (st : State) × (f ≡ fed st) × (k ≡ counted st)
+pub next-fed : (f : Fed) (k : Counts) → asFed f ≡ Next.Next k → (st : State) × (f ≡ fed st) × (k ≡ countsOf st)
 next-fed (refused m) k e = absurd (let z : _≡_ {A = ℕ} 0 1 = unfold asFed in cc in omega arith)
 next-fed (fed st) k e = (st, refl, unfold asFed in cc)
 
-pub held-after : (s : Text) (t : Table) (f : Fed) (st : State) → f ≡ fed st → HeldAfter s t f → Held s t st (counted st)
+pub held-after : (s : Text) (t : Table) (f : Fed) (st : State) → f ≡ fed st → HeldAfter s t f → Held s t st (countsOf st)
 unfolding HeldAfter
 held-after s t f st e h = subst (HeldAfter s t) e h
 
@@ -129,24 +129,24 @@ counts-model m (c ∷ cs) n e = go (eqb (c .count) (givenTo m (c .class))) refl 
     go false f rest = absurd (no-model wrongCode (c .at) n (sym (counts-off m c cs f) ∙ e))
 
 -- what is known at the end of a whole text
-module _ (s : Text) (t : Table) (st : State) (h : Held s t st (counted st)) where
+module _ (s : Text) (t : Table) (st : State) (h : Held s t st (countsOf st)) where
   module _ (e : asked (st .key) ≡ Asked.Nothing) where
     at-end : Known atEnd s t st
     at-end = known-in s t st atEnd (ap partOf (end-asked _ e) ∙ (unfold partOf in refl)) h
 
-    pub end-classes : length (st .model .done) ≡ counted st .model .classes
-    unfolding PartHeld counted modelCounted
+    pub end-classes : length (st .model .done) ≡ countsOf st .model .classes
+    unfolding PartHeld countsOf modelCounted
     end-classes = at-end .part
 
-    pub end-lines : counted st .model .total ≤ 512
-    unfolding counted modelCounted
+    pub end-lines : countsOf st .model .total ≤ 512
+    unfolding countsOf modelCounted
     end-lines = at-end .lines
 
-    pub end-news : st .model .creations ≡ creationsIn t (counted st .model .total)
+    pub end-news : st .model .creations ≡ creationsIn t (countsOf st .model .total)
     unfolding reached
     end-news = at-end .creations
 
-    pub end-told : Rows (ClassTold s (st .model .classes) t (whole atEnd (counted st))) 0 (st .model .done)
+    pub end-told : Rows (ClassTold s (st .model .classes) t (wholeLines atEnd (countsOf st))) 0 (st .model .done)
     end-told = at-end .told
 
   pub end-belongs : (at : ℕ) (m : Model) → endJudged at st (asked (st .key)) ≡ model m → Belongs s t m

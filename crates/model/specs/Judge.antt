@@ -11,9 +11,9 @@ use Rattle.model.specs.declared.Asked.{Asked}
 use Rattle.model.specs.declared.Asked.the-variants as Asked
 use Rattle.model.specs.declared.Verdict.{Verdict}
 use Rattle.model.specs.Lines.{Line, lines, longestText}
-use Rattle.model.specs.Keys.{asked}
+use Rattle.model.specs.Vocabulary.Keys.{asked}
 use Rattle.model.specs.Model.{Model}
-use Rattle.model.specs.Automaton.{Creation, State, begin, refused, fed, feed}
+use Rattle.model.specs.Vocabulary.Automaton.{Creation, State, begin, refused, fed, feed}
 
 -- a text is refused with a verdict, or gives a model
 pub data Judged : Type 0 where

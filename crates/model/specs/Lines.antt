@@ -21,19 +21,19 @@ lineFeed = 10
 
 -- a line, ended by its LF or by the end of the text
 pub data Line : Type 0 where
-  whole : Text → Line
-  unended : Text → Line
+  terminated : Text → Line
+  unterminated : Text → Line
 
 -- a byte before the first of some lines
 unfoldable pub grown : ℕ → List Line → List Line
-grown b [] = unended (b ∷ []) ∷ []
-grown b (whole l ∷ ls) = whole (b ∷ l) ∷ ls
-grown b (unended l ∷ ls) = unended (b ∷ l) ∷ ls
+grown b [] = unterminated (b ∷ []) ∷ []
+grown b (terminated l ∷ ls) = terminated (b ∷ l) ∷ ls
+grown b (unterminated l ∷ ls) = unterminated (b ∷ l) ∷ ls
 
 -- the lines of a text; an LF at its very end begins no further line
 unfoldable pub lines : Text → List Line
 lines [] = []
-lines (b ∷ s) = elim (eqb b lineFeed) [ true ↦ whole [] ∷ lines s | false ↦ grown b (lines s) ]
+lines (b ∷ s) = elim (eqb b lineFeed) [ true ↦ terminated [] ∷ lines s | false ↦ grown b (lines s) ]
 
 -- "bytes from 32 to 126"
 unfoldable pub plainByte : ℕ → Bool
@@ -44,19 +44,10 @@ plainBytes [] = true
 plainBytes (b ∷ s) = elim (plainByte b) [ true ↦ plainBytes s | false ↦ false ]
 
 unfoldable pub sound : Line → Bool
-sound (whole l) = leb (length l) longestLine && plainBytes l
-sound (unended l) = false
+sound (terminated l) = leb (length l) longestLine && plainBytes l
+sound (unterminated l) = false
 
 -- a line without its end
 unfoldable pub content : Line → Text
-content (whole l) = l
-content (unended l) = l
-
--- the end of the first of some lines, which begins at a place: where its LF stands, if the line is sound
-unfoldable pub firstEnd : ℕ → List Line → LineFound
-firstEnd at [] = LineFound.Broken
-firstEnd at (l ∷ ls) = elim (sound l) [ true ↦ LineFound.Sound (at + length (content l)) | false ↦ LineFound.Broken ]
-
--- the end of the line that begins at a place
-unfoldable pub soundEnd : Text → ℕ → LineFound
-soundEnd s at = firstEnd at (lines (drop at s))
+content (terminated l) = l
+content (unterminated l) = l

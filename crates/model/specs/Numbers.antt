@@ -15,8 +15,3 @@ numberIn least most value = elim (ended value (decimal most value 0)) [
   | got at n ↦ elim (leb least n) [ true ↦ some n | false ↦ none ]
   | bad at ↦ none
 ]
-
--- the same, as the code gives it
-unfoldable pub asNumberLine : Option ℕ → NumberLine
-asNumberLine (some n) = Number.Is n
-asNumberLine none = Number.Bad

@@ -10,11 +10,11 @@ ghost use mathlib.Core.Path.{_≡_};
 ghost use mathlib.Core.List.{List};
 ghost use Prim.Native.Nat.{ℕ, _+_, _<_, _^_};
 ghost use Rattle.code.specs.Blocks.{Block};
-ghost use Rattle.code.specs.OpenBlocks.{packed};
+ghost use Rattle.code.specs.Vocabulary.OpenBlocks.{packedBlocks};
 ghost use Rattle.code.specs.Statements.{Code};
 ghost use Rattle.model.specs.declared.Key.the-variants as Key;
-ghost use Rattle.model.specs.Automaton as Automaton;
-ghost use Rattle.model.specs.Counts as Counting;
+ghost use Rattle.model.specs.Vocabulary.Automaton as Automaton;
+ghost use Rattle.model.specs.Vocabulary.Counts as Counting;
 
 // "Blocks nest at most 8 deep.": the least number of nine open blocks, which has nine digits to the base 4.
 const TOO_DEEP: u32 = 65536;
@@ -98,7 +98,7 @@ fn method_closed(counts: Counts) -> Counts
 // `methods=`: a list of methods begins.
 fn methods_begun(counts: Counts, n: u32) -> Counts
     requires { ⌜ counts .model .read < 16 ⌝ }
-    ensures { λ r. ⌜ Automaton.Follows (λ st. Automaton.numbered Key.Methods st n) counts r ⌝ }
+    ensures { λ r. ⌜ Automaton.Follows (λ st. Automaton.numberFed Key.Methods st n) counts r ⌝ }
 {
     let mut class = counts.class;
     class.methods = n;
@@ -109,7 +109,7 @@ fn methods_begun(counts: Counts, n: u32) -> Counts
 // `lines=`: a list of code lines begins, and they are counted with all others.
 fn lines_begun(counts: Counts, n: u32) -> Counts
     requires { ⌜ counts .model .total + n < 2 ^ 32 ⌝ }
-    ensures { λ r. ⌜ Automaton.Follows (λ st. Automaton.numbered Key.Lines st n) counts r ⌝ }
+    ensures { λ r. ⌜ Automaton.Follows (λ st. Automaton.numberFed Key.Lines st n) counts r ⌝ }
 {
     let mut model = counts.model;
     let mut method = counts.method;
@@ -124,7 +124,7 @@ fn lines_begun(counts: Counts, n: u32) -> Counts
 pub fn numbered(counts: Counts, n: u32) -> Counts
     requires { ⌜ counts .model .read < 16 ⌝ }
     requires { ⌜ (counts .key ≡ Key.Lines → counts .model .total + n < 2 ^ 32) ⌝ }
-    ensures { λ r. ⌜ Automaton.Follows (λ st. Automaton.numbered (st .key) st n) counts r ⌝ }
+    ensures { λ r. ⌜ Automaton.Follows (λ st. Automaton.numberFed (st .key) st n) counts r ⌝ }
 {
     let key = counts.key;
     let mut model = counts.model;
@@ -178,7 +178,7 @@ pub fn stated(counts: Counts, blocks: u32) -> Counts
     requires { ⌜ counts .model .read < 16 ⌝ }
     requires { ⌜ counts .class .read < 8 ⌝ }
     requires { ⌜ counts .method .read < 64 ⌝ }
-    ensures { λ r. ⌜ ((at : ℕ) (c : Code) (bs : List Block) → blocks ≡ packed bs → Automaton.Follows (λ st. Automaton.stated at st c bs) counts r) ⌝ }
+    ensures { λ r. ⌜ ((at : ℕ) (c : Code) (bs : List Block) → blocks ≡ packedBlocks bs → Automaton.Follows (λ st. Automaton.stated at st c bs) counts r) ⌝ }
 {
     let mut method = counts.method;
     method.read += 1;
@@ -192,7 +192,7 @@ pub fn stated(counts: Counts, blocks: u32) -> Counts
 
 // "A method's last line is a `return` outside all blocks."
 fn ends_method(shape: Shape, blocks: u32) -> bool
-    ensures { λ r. ⌜ ((bs : List Block) → blocks ≡ packed bs → r ≡ Counting.endsMethod shape bs) ⌝ }
+    ensures { λ r. ⌜ ((bs : List Block) → blocks ≡ packedBlocks bs → r ≡ Counting.endsMethod shape bs) ⌝ }
 {
     if blocks::shape_number(Shape::Return) == blocks::shape_number(shape) {
         return blocks == 0;
@@ -203,7 +203,7 @@ fn ends_method(shape: Shape, blocks: u32) -> bool
 // Whether a line may stand where it stands, by the blocks that are open after it.
 pub fn may_stand(counts: Counts, shape: Shape, blocks: u32) -> bool
     requires { ⌜ counts .method .read < 64 ⌝ }
-    ensures { λ r. ⌜ ((bs : List Block) → blocks ≡ packed bs → r ≡ Counting.mayStand counts shape bs) ⌝ }
+    ensures { λ r. ⌜ ((bs : List Block) → blocks ≡ packedBlocks bs → r ≡ Counting.mayStand counts shape bs) ⌝ }
 {
     if is_last(counts) {
         return ends_method(shape, blocks);

@@ -24,20 +24,20 @@ ghost use Prim.Native.Nat.{ℕ, _-_, _≤_, _<_};
 ghost use lib.ListN.{length, take, drop};
 ghost use Rattle.code.specs.declared.NewFound.the-variants as New;
 ghost use Rattle.code.specs.Blocks.{Block, shapeOf};
-ghost use Rattle.code.specs.Creating.{newSaid, asNew};
-ghost use Rattle.code.specs.OpenBlocks.{packed, shapeSaid};
+ghost use Rattle.code.specs.Vocabulary.Creating.{newSaid, asNew};
+ghost use Rattle.code.specs.Vocabulary.OpenBlocks.{packedBlocks, shapeSaid};
 ghost use Rattle.code.specs.Statements.{Code};
 ghost use Rattle.model.specs.declared.Key.the-variants as Key;
-ghost use Rattle.model.specs.Automaton as Automaton;
-ghost use Rattle.model.specs.Filling as Filling;
-ghost use Rattle.model.specs.Table as Table;
+ghost use Rattle.model.specs.Vocabulary.Automaton as Automaton;
+ghost use Rattle.model.specs.Vocabulary.Filling as Filling;
+ghost use Rattle.model.specs.Vocabulary.Table as Table;
 
 // A code line takes its place: in the counts, and in its rows of the table.
 fn line_stated(table: &mut [u32], counts: Counts, new: NewFound, blocks: u32, at: CodeAt) -> Counts
-    requires { ⌜ length (now table) ≡ Table.size ⌝ }
+    requires { ⌜ length (now table) ≡ Table.tableSize ⌝ }
     requires { ⌜ Filling.Ready counts ⌝ }
     requires { ⌜ ((k n : ℕ) → new ≡ New.Is k n → (k < 16) × (n < 65536)) ⌝ }
-    ensures { λ r. ⌜ ((c : Code) (bs : List Block) → blocks ≡ packed bs → Automaton.Follows (λ st. Automaton.stated (at .line) st c bs) counts r) ⌝ }
+    ensures { λ r. ⌜ ((c : Code) (bs : List Block) → blocks ≡ packedBlocks bs → Automaton.Follows (λ st. Automaton.stated (at .line) st c bs) counts r) ⌝ }
     ensures { λ r. ⌜ ((o : Option (ℕ × ℕ)) → new ≡ asNew o → now (table .exit) ≡ Filling.linePut counts r (at .line) (at .place) (at .long) o (now (table .entry))) ⌝ }
 {
     let after = automaton::stated(counts, blocks);
@@ -55,10 +55,10 @@ fn block_line(
     arguments: usize,
     at: CodeAt,
 ) -> Fed
-    requires { ⌜ length (now table) ≡ Table.size ⌝ }
+    requires { ⌜ length (now table) ≡ Table.tableSize ⌝ }
     requires { ⌜ Filling.Ready counts ⌝ }
     requires { ⌜ ((k n : ℕ) → newSaid statement arguments ≡ some (k, n) → (k < 16) × (n < 65536)) ⌝ }
-    ensures { λ r. ⌜ ((st : Automaton.State) (c : Code) → counts ≡ Automaton.counted st → shapeSaid statement ≡ shapeOf c → r ≡ Automaton.asFed (Automaton.blockLine (at .line) st c)) ⌝ }
+    ensures { λ r. ⌜ ((st : Automaton.State) (c : Code) → counts ≡ Automaton.countsOf st → shapeSaid statement ≡ shapeOf c → r ≡ Automaton.asFed (Automaton.blockLine (at .line) st c)) ⌝ }
     ensures { λ r. ⌜ now (table .exit) ≡ Filling.filledBy r (λ after. Filling.linePut counts after (at .line) (at .place) (at .long) (newSaid statement arguments)) (now (table .entry)) ⌝ }
 {
     let shape = blocks::shape_of(statement);

@@ -8,16 +8,16 @@ ghost use mathlib.Core.Path.{_≡_};
 ghost use Prim.Native.Nat.{ℕ, _≤_};
 ghost use lib.ListN.{length};
 ghost use Rattle.terms.specs.Bytes.{Text};
-ghost use Rattle.model.specs.Belonging.{ClassTold};
-ghost use Rattle.model.specs.Creations as Creations;
+ghost use Rattle.model.specs.Vocabulary.Belonging.{ClassTold};
+ghost use Rattle.model.specs.Vocabulary.Creations as Creations;
 ghost use Rattle.model.specs.Judge as Judge;
 ghost use Rattle.model.specs.Model.{Model};
-ghost use Rattle.model.specs.Table.{Rows};
-ghost use Rattle.model.specs.Table as Table;
+ghost use Rattle.model.specs.Vocabulary.Table.{Rows};
+ghost use Rattle.model.specs.Vocabulary.Table as Table;
 
 // The arguments that a class is to be given; a class that is not there is given none.
 fn given_to(table: &[u32], classes: u32, class: u32) -> u32
-    requires { ⌜ length (now table) ≡ Table.size ⌝ }
+    requires { ⌜ length (now table) ≡ Table.tableSize ⌝ }
     requires { ⌜ classes ≤ 16 ⌝ }
     ensures { λ r. ⌜ ((s : Text) (n filled : ℕ) (m : Model) → Rows (ClassTold s n (now (table .entry)) filled) 0 m → length m ≡ classes → r ≡ Judge.givenTo m class) ⌝ }
 {
@@ -30,7 +30,7 @@ fn given_to(table: &[u32], classes: u32, class: u32) -> u32
 
 // A `new` as one number has as many arguments as its class is to be given; a line that is none fits.
 fn fits(table: &[u32], classes: u32, new: u32) -> bool
-    requires { ⌜ length (now table) ≡ Table.size ⌝ }
+    requires { ⌜ length (now table) ≡ Table.tableSize ⌝ }
     requires { ⌜ classes ≤ 16 ⌝ }
     ensures { λ r. ⌜ ((s : Text) (n filled : ℕ) (m : Model) → Rows (ClassTold s n (now (table .entry)) filled) 0 m → length m ≡ classes → r ≡ Creations.newFits m new) ⌝ }
 {
@@ -44,7 +44,7 @@ fn fits(table: &[u32], classes: u32, new: u32) -> bool
 
 // Every `new` of a text that passes otherwise, in the order of its lines: the first that does not fit is refused.
 pub fn counts_judged(table: &[u32], classes: u32, total: u32) -> Verdict
-    requires { ⌜ length (now table) ≡ Table.size ⌝ }
+    requires { ⌜ length (now table) ≡ Table.tableSize ⌝ }
     requires { ⌜ classes ≤ 16 ⌝ }
     requires { ⌜ total ≤ 512 ⌝ }
     ensures { λ r. ⌜ ((s : Text) (n filled : ℕ) (m : Model) → Rows (ClassTold s n (now (table .entry)) filled) 0 m → length m ≡ classes → r ≡ Judge.verdictOf (Judge.countsJudged m (Creations.creationsIn (now (table .entry)) total))) ⌝ }

@@ -15,18 +15,18 @@ ghost use mathlib.Core.Bool.{true};
 ghost use mathlib.Core.Path.{_≡_};
 ghost use Prim.Native.Nat.{_-_, _≤_, _<_};
 ghost use lib.ListN.{length, take, drop};
-ghost use Rattle.model.specs.Automaton as Automaton;
-ghost use Rattle.model.specs.Filling as Filling;
-ghost use Rattle.model.specs.Keys as Keys;
+ghost use Rattle.model.specs.Vocabulary.Automaton as Automaton;
+ghost use Rattle.model.specs.Vocabulary.Filling as Filling;
+ghost use Rattle.model.specs.Vocabulary.Keys as Keys;
 ghost use Rattle.model.specs.Lines as Lines;
-ghost use Rattle.model.specs.Table as Table;
+ghost use Rattle.model.specs.Vocabulary.Table as Table;
 
 // "a number outside code: its form, its range, or the 512"
 fn number_line(table: &mut [u32], counts: Counts, value: &[u8]) -> Fed
-    requires { ⌜ length (now table) ≡ Table.size ⌝ }
+    requires { ⌜ length (now table) ≡ Table.tableSize ⌝ }
     requires { ⌜ counts .model .read < 16 ⌝ }
     requires { ⌜ counts .model .total ≤ 512 ⌝ }
-    ensures { λ r. ⌜ ((st : Automaton.State) → counts ≡ Automaton.counted st → r ≡ Automaton.asFed (Automaton.numberLine st (now (value .entry)))) ⌝ }
+    ensures { λ r. ⌜ ((st : Automaton.State) → counts ≡ Automaton.countsOf st → r ≡ Automaton.asFed (Automaton.numberLine st (now (value .entry)))) ⌝ }
     ensures { λ r. ⌜ now (table .exit) ≡ Filling.filledBy r (Filling.classPut counts) (now (table .entry)) ⌝ }
 {
     let key = counts.key;
@@ -75,9 +75,9 @@ pub fn line(
     line: u32,
 ) -> Fed
     requires { ⌜ (place ≤ end) × (end ≤ length (now text)) × (length (now text) ≤ 32768) ⌝ }
-    requires { ⌜ Lines.sound (Lines.whole (take (end - place) (drop place (now text)))) ≡ true ⌝ }
+    requires { ⌜ Lines.sound (Lines.terminated (take (end - place) (drop place (now text)))) ≡ true ⌝ }
     requires { ⌜ ((st : Automaton.State) × Filling.Tells (now text) counts (now table) st) ⌝ }
-    ensures { λ r. ⌜ ((st : Automaton.State) → Filling.Tells (now (text .entry)) counts (now (table .entry)) st → Filling.TellsAfter (now (text .entry)) r (now (table .exit)) (Automaton.feed line st (Lines.whole (take (end - place) (drop place (now (text .entry))))))) ⌝ }
+    ensures { λ r. ⌜ ((st : Automaton.State) → Filling.Tells (now (text .entry)) counts (now (table .entry)) st → Filling.TellsAfter (now (text .entry)) r (now (table .exit)) (Automaton.feed line st (Lines.terminated (take (end - place) (drop place (now (text .entry))))))) ⌝ }
 {
     let content = &text[place..end];
     let key = counts.key;

@@ -11,10 +11,10 @@ ghost use mathlib.Core.Option.{Option};
 ghost use Prim.Native.Nat.{ℕ, _≤_, _<_};
 ghost use lib.ListN.{length};
 ghost use Rattle.code.specs.declared.NewFound.the-variants as New;
-ghost use Rattle.code.specs.Creating.{asNew};
-ghost use Rattle.model.specs.Creations as Creations;
-ghost use Rattle.model.specs.Filling as Filling;
-ghost use Rattle.model.specs.Table as Table;
+ghost use Rattle.code.specs.Vocabulary.Creating.{asNew};
+ghost use Rattle.model.specs.Vocabulary.Creations as Creations;
+ghost use Rattle.model.specs.Vocabulary.Filling as Filling;
+ghost use Rattle.model.specs.Vocabulary.Table as Table;
 
 // Where the rows of methods and of code lines begin: a row for each class stands before them, and one for each method of each class.
 const FIRST_METHOD: usize = ranges::MOST_CLASSES as usize;
@@ -44,7 +44,7 @@ pub fn new_number(new: NewFound) -> u32
 
 // The row of the code line being read: the place and the length of its value, its line in the text, and its `new` as one number.
 pub fn put_code(table: &mut [u32], counts: Counts, at: CodeAt, new: u32)
-    requires { ⌜ length (now table) ≡ Table.size ⌝ }
+    requires { ⌜ length (now table) ≡ Table.tableSize ⌝ }
     requires { ⌜ counts .method .lines ≤ counts .model .total ⌝ }
     requires { ⌜ Filling.thisLine counts < 512 ⌝ }
     ensures { λ _. ⌜ now (table .exit) ≡ Filling.codePut counts (at .line) (at .place) (at .long) new (now (table .entry)) ⌝ }
@@ -59,7 +59,7 @@ pub fn put_code(table: &mut [u32], counts: Counts, at: CodeAt, new: u32)
 
 // The row of the method being read, at its last line.
 pub fn put_method(table: &mut [u32], counts: Counts)
-    requires { ⌜ length (now table) ≡ Table.size ⌝ }
+    requires { ⌜ length (now table) ≡ Table.tableSize ⌝ }
     requires { ⌜ counts .method .lines ≤ counts .model .total ⌝ }
     requires { ⌜ counts .model .read < 16 ⌝ }
     requires { ⌜ counts .class .read < 8 ⌝ }
@@ -84,7 +84,7 @@ pub fn put_method(table: &mut [u32], counts: Counts)
 
 // The row of the class being read, at the line that makes it whole.
 pub fn put_class(table: &mut [u32], before: Counts, after: Counts)
-    requires { ⌜ length (now table) ≡ Table.size ⌝ }
+    requires { ⌜ length (now table) ≡ Table.tableSize ⌝ }
     requires { ⌜ before .model .read < 16 ⌝ }
     ensures { λ _. ⌜ now (table .exit) ≡ Filling.classPut before after (now (table .entry)) ⌝ }
 {

@@ -17,20 +17,20 @@ use whole::refusals;
 ghost use mathlib.Core.Path.{_≡_};
 ghost use lib.ListN.{length};
 ghost use Rattle.terms.specs.Bytes.{Text};
-ghost use Rattle.model.specs.Automaton as Automaton;
-ghost use Rattle.model.specs.Belonging as Belonging;
-ghost use Rattle.model.specs.Filling as Filling;
+ghost use Rattle.model.specs.Vocabulary.Automaton as Automaton;
+ghost use Rattle.model.specs.Vocabulary.Belonging as Belonging;
+ghost use Rattle.model.specs.Vocabulary.Filling as Filling;
 ghost use Rattle.model.specs.Judge as Judge;
-ghost use Rattle.model.specs.Keys as Keys;
+ghost use Rattle.model.specs.Vocabulary.Keys as Keys;
 ghost use Rattle.model.specs.Model.{Model};
-ghost use Rattle.model.specs.Table as Table;
+ghost use Rattle.model.specs.Vocabulary.Table as Table;
 
 // "At most 32,768 bytes"
 const LONGEST_TEXT: usize = 32768;
 
 // Nothing read yet.
 fn begin() -> Counts
-    ensures { λ r. ⌜ r ≡ Automaton.counted Automaton.begin ⌝ }
+    ensures { λ r. ⌜ r ≡ Automaton.countsOf Automaton.begin ⌝ }
 {
     Counts {
         key: Key::Creol,
@@ -79,7 +79,7 @@ fn ended(table: &[u32], counts: Counts, line: u32) -> Verdict
 
 // The verdict on a text, with the table that belongs to it where it is accepted.
 pub fn read(text: &[u8], table: &mut [u32]) -> Verdict
-    requires { ⌜ length (now table) ≡ Table.size ⌝ }
+    requires { ⌜ length (now table) ≡ Table.tableSize ⌝ }
     ensures { λ r. ⌜ r ≡ Judge.judge (now (text .entry)) ⌝ }
     ensures { λ _. ⌜ ((m : Model) → Judge.judged (now (text .entry)) ≡ Judge.model m → Belonging.Belongs (now (text .entry)) (now (table .exit)) m) ⌝ }
 {

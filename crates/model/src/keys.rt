@@ -4,9 +4,9 @@ use crate::Key;
 use terms::ReadWord;
 use terms::leaves;
 ghost use mathlib.Core.Path.{_≡_};
-ghost use Rattle.terms.specs.Answers.{asWord};
+ghost use Rattle.terms.specs.Vocabulary.Answers.{asWord};
 ghost use Rattle.terms.specs.Parsed.{word};
-ghost use Rattle.model.specs.Keys as Keys;
+ghost use Rattle.model.specs.Vocabulary.Keys as Keys;
 
 // Where the value of a line begins, behind its key and the `=`. The end of the text has no key: whatever stands there is left over.
 pub fn key_end(key: Key, line: &[u8]) -> ReadWord

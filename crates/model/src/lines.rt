@@ -5,6 +5,7 @@ ghost use mathlib.Core.Path.{_≡_};
 ghost use Prim.Native.Nat.{_+_, _-_, _≤_, min};
 ghost use lib.ListN.{length, take, drop};
 ghost use Rattle.model.specs.Lines as Lines;
+ghost use Rattle.model.specs.Vocabulary.LineEnds as LineEnds;
 
 const LONGEST_LINE: usize = 120;
 
@@ -63,7 +64,7 @@ fn search_end(long: usize, at: usize) -> usize
 // The end of the line that begins at a place, found and tested in one pass.
 pub fn sound_line(text: &[u8], at: usize) -> LineFound
     requires { ⌜ at ≤ length (now text) ⌝ }
-    ensures { λ r. ⌜ r ≡ Lines.soundEnd (now (text .entry)) at ⌝ }
+    ensures { λ r. ⌜ r ≡ LineEnds.soundEnd (now (text .entry)) at ⌝ }
 {
     let stop = search_end(text.len(), at);
     let mut i = past_groups(text, at, stop);

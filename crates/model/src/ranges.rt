@@ -3,7 +3,7 @@ use crate::Counts;
 use crate::Key;
 ghost use mathlib.Core.Path.{_≡_};
 ghost use Prim.Native.Nat.{_≤_};
-ghost use Rattle.model.specs.Counts as Counting;
+ghost use Rattle.model.specs.Vocabulary.Counts as Counting;
 
 const EDITION: u32 = 1;
 

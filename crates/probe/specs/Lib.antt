@@ -1,2 +1,2 @@
 -- What was read, as one number.
-pub mod Packed
+pub mod Vocabulary

@@ -8,10 +8,10 @@ use terms::ReadValue;
 use whole::Worked;
 ghost use mathlib.Core.Path.{_≡_};
 ghost use Prim.Native.Nat.{_≤_};
-ghost use Rattle.terms.specs.Readers.{expressionRead, guardRead};
+ghost use Rattle.terms.specs.Vocabulary.Readers.{expressionRead, guardRead};
 ghost use Rattle.terms.specs.Expressions.{brackets};
-ghost use Rattle.terms.specs.Answers.{asValue};
-ghost use Rattle.probe.specs.Packed as Packed;
+ghost use Rattle.terms.specs.Vocabulary.Answers.{asValue};
+ghost use Rattle.probe.specs.Vocabulary.Packed as Packed;
 
 // The largest place that is told.
 const FARTHEST: usize = 65535;
@@ -40,7 +40,7 @@ fn bits(z: i32) -> u64
 
 // What was read as one number: place + 2^16 * kind + 2^32 * value. The kind is 0 for a value, 1 for one out of range, 2 for a refusal.
 fn pack(r: ReadValue) -> u64
-    ensures { λ n. ⌜ n ≡ Packed.packed r ⌝ }
+    ensures { λ n. ⌜ n ≡ Packed.packedValue r ⌝ }
 {
     match r {
         ReadValue::Bad(p) => place(p) + 0x2_0000,
@@ -76,7 +76,7 @@ pub extern "C" fn probe_expression(
     object: u8,
     label: u32,
 ) -> u64
-    ensures { λ r. ⌜ r ≡ Packed.packed (asValue (expressionRead (now (cells .entry)) (Packed.around attrs locals object label) (now (s .entry)) brackets at)) ⌝ }
+    ensures { λ r. ⌜ r ≡ Packed.packedValue (asValue (expressionRead (now (cells .entry)) (Packed.around attrs locals object label) (now (s .entry)) brackets at)) ⌝ }
 {
     pack(terms::expressions::expression(
         s,
@@ -97,7 +97,7 @@ pub extern "C" fn probe_guard(
     object: u8,
     label: u32,
 ) -> u64
-    ensures { λ r. ⌜ r ≡ Packed.packed (asValue (guardRead (now (cells .entry)) (Packed.around attrs locals object label) (now (s .entry)) brackets at)) ⌝ }
+    ensures { λ r. ⌜ r ≡ Packed.packedValue (asValue (guardRead (now (cells .entry)) (Packed.around attrs locals object label) (now (s .entry)) brackets at)) ⌝ }
 {
     pack(terms::guards::guard(
         s,

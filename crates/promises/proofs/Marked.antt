@@ -7,7 +7,7 @@ use lib.IntN.{ℤ, pos, negsuc}
 use lib.ListN.{replicate, length}
 use Rattle.whole.specs.Whole.{truth}
 use Rattle.whole.proofs.Tables.{Row, _is_, Holds}
-use Rattle.layout.specs.Layout.{Cells, size, ofObject, ofCall, attribute, local}
+use Rattle.layout.specs.Layout.{Cells, allCells, ofObject, ofCall, attribute, local}
 use Rattle.terms.specs.Bytes.{Text, bytes}
 use Rattle.model.specs.Judge.{judge}
 use Rattle.model.proofs.Session.{session-texts, session, session-with, storing}
@@ -36,7 +36,7 @@ twice =
 
 -- the entries, from a start on cells that hold anything: here -1
 started : Text → Cells
-started s = start s (replicate size (negsuc 0)) .cells
+started s = start s (replicate allCells (negsuc 0)) .cells
 
 ran : Text → Text → Outcome
 ran s input = run s (started s) (choicesFrom input) (replicate (length (choicesFrom input)) (negsuc 0))

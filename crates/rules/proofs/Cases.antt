@@ -5,7 +5,7 @@ use mathlib.Core.Path.{refl}
 use lib.IntN.{ℤ, pos}
 use lib.ListN.{replicate}
 use Rattle.whole.proofs.Tables.{Row, _is_, Holds}
-use Rattle.layout.specs.Layout.{Cells, size, read, write, objects, calls, ofObject, ofCall, newObject, newCall, attribute, stage, value}
+use Rattle.layout.specs.Layout.{Cells, allCells, read, write, objects, calls, ofObject, ofCall, newObject, newCall, attribute, stage, value}
 use Rattle.layout.specs.Stages.{running}
 use Rattle.terms.specs.Bytes.{Text, bytes}
 use Rattle.model.specs.Judge.{judged, refusal, model}
@@ -20,7 +20,7 @@ modelOf : Text → Model
 modelOf s = elim (judged s) [ refusal n at ↦ [] | model m ↦ m ]
 
 begun : Cells
-begun = newCall (newObject (write (write (replicate size (pos 0)) objects (pos 1)) calls (pos 1)) 1 0 1 []) 1 running 0 1 0 []
+begun = newCall (newObject (write (write (replicate allCells (pos 0)) objects (pos 1)) calls (pos 1)) 1 0 1 []) 1 running 0 1 0 []
 
 choice : Kind → ℕ → Choice
 choice k n = record { kind = pos (kindNumber k); number = pos n }

@@ -4,7 +4,7 @@ use mathlib.Core.List.{[], _∷_}
 use mathlib.Core.Option.{Option, none, some}
 use lib.IntN.{ℤ, pos, negsuc}
 use lib.ListN.{getD}
-use Rattle.whole.specs.Refusals.{noChoice}
+use Rattle.whole.specs.Refusals.{notInUse}
 use Rattle.layout.specs.Layout.{Cells}
 use Rattle.layout.specs.Stages.{objectOf, labelOf}
 use Rattle.model.specs.Model.{Model}
@@ -48,6 +48,6 @@ ruled m c deliver n = Messages.deliver c n
 -- "then the choice: 12, then the row's order"
 unfoldable pub next : Model → Cells → Choice → Next
 next m c choice = elim (kindOf (choice .kind)) [
-  | none ↦ refused noChoice
-  | some k ↦ elim (subjectOf c k (choice .number)) [ none ↦ refused noChoice | some n ↦ ruled m c k n ]
+  | none ↦ refused notInUse
+  | some k ↦ elim (subjectOf c k (choice .number)) [ none ↦ refused notInUse | some n ↦ ruled m c k n ]
 ]

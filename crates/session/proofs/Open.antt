@@ -7,5 +7,5 @@ use Rattle.engine.proofs.Open.{engine-open}
 unfoldable pub session-open : Unit {0}
 unfolding engine-open Choices.digitsFrom Choices.digitsAlone Choices.kindName Choices.noChoice Choices.choiceOf Choices.choicesFrom
     Runner.answerLines Runner.acceptedIn Runner.refusedIn Runner.report Runner.ran Runner.runner Shown.shownFrom Shown.shown
-    Shown.lineOf
+    Shown.shownLine
 session-open = tt

@@ -12,12 +12,12 @@ use Rattle.rules.specs.declared.Choice.{Choice}
 use Rattle.engine.specs.Start.{fresh}
 use Rattle.engine.specs.Run.{runCells, runAnswers}
 use Rattle.session.specs.Choices.{choicesFrom}
-use Rattle.session.specs.Shown.{lineOf}
+use Rattle.session.specs.Shown.{shownLine}
 
 -- "It writes an `answer=` line for each choice"
 unfoldable pub answerLines : List ℤ → Text
 answerLines [] = []
-answerLines (z ∷ zs) = lineOf (bytes "answer=") (nat z) ++ answerLines zs
+answerLines (z ∷ zs) = shownLine (bytes "answer=") (nat z) ++ answerLines zs
 
 -- how many choices were accepted, and how many refused
 unfoldable pub acceptedIn : List ℤ → ℕ
@@ -32,10 +32,10 @@ refusedIn (z ∷ zs) = elim (eqZ z (pos 0)) [ true ↦ refusedIn zs | false ↦ 
 unfoldable pub report : List ℤ → Cells → Text
 report answers c =
     answerLines answers
-    ++ lineOf (bytes "accepted=") (acceptedIn answers)
-    ++ lineOf (bytes "refused=") (refusedIn answers)
-    ++ lineOf (bytes "objects=") (nat (read c objects))
-    ++ lineOf (bytes "calls=") (nat (read c calls))
+    ++ shownLine (bytes "accepted=") (acceptedIn answers)
+    ++ shownLine (bytes "refused=") (refusedIn answers)
+    ++ shownLine (bytes "objects=") (nat (read c objects))
+    ++ shownLine (bytes "calls=") (nat (read c calls))
 
 -- a model that was accepted is started, and the choices are run
 unfoldable pub ran : Model → List Choice → Text
@@ -44,6 +44,6 @@ ran m choices = report (runAnswers m fresh choices) (runCells m fresh choices)
 -- "A refused model gives only `refused=` and `line=`."
 unfoldable pub runner : Text → Text → Text
 runner s input = elim (judged s) [
-  | refusal n at ↦ lineOf (bytes "refused=") n ++ lineOf (bytes "line=") at
+  | refusal n at ↦ shownLine (bytes "refused=") n ++ shownLine (bytes "line=") at
   | model m ↦ ran m (choicesFrom input)
 ]

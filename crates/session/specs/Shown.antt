@@ -19,5 +19,5 @@ unfoldable pub shown : ℕ → Text
 shown n = shownFrom (suc n) n []
 
 -- a name with its `=`, a number, and an LF
-unfoldable pub lineOf : Text → ℕ → Text
-lineOf name n = name ++ shown n ++ (lineFeed ∷ [])
+unfoldable pub shownLine : Text → ℕ → Text
+shownLine name n = name ++ shown n ++ (lineFeed ∷ [])

@@ -10,7 +10,7 @@ use Rattle.terms.specs.declared.ReadValue.the-variants as Value
 use Rattle.terms.specs.declared.ReadVariable.the-variants as Variable′
 use Rattle.terms.specs.declared.ReadWord.the-variants as Word
 use Rattle.terms.specs.declared.Variable.{Variable}
-use Rattle.terms.specs.Answers.{asWord, asNumber, asVariable, asValue, asOperator}
+use Rattle.terms.specs.Vocabulary.Answers.{asWord, asNumber, asVariable, asValue, asOperator}
 use Rattle.terms.specs.Parsed.{Parsed, got, bad, mapped}
 
 pub word-got : (q : Parsed (Unit {0})) (p : ℕ) → asWord q ≡ Word.Got p → q ≡ got p tt

@@ -7,7 +7,7 @@ use Rattle.whole.specs.declared.Operator.the-variants.{Plus, Minus, Times, Less
 use Rattle.whole.specs.declared.Worked.{Worked}
 use Rattle.whole.specs.declared.Worked.the-variants.{Value, OutOfRange}
 use Rattle.whole.proofs.Tables.{Row, _is_, Holds}
-use Rattle.layout.specs.Layout.{Cells, size, write, objects, calls, newCall, toCall, cleared}
+use Rattle.layout.specs.Layout.{Cells, allCells, write, objects, calls, newCall, toCall, cleared}
 use Rattle.layout.specs.Stages.{running, replied}
 use Rattle.terms.specs.declared.Variable.the-variants.{Attribute}
 use Rattle.terms.specs.Bytes.{Text, bytes}
@@ -52,7 +52,7 @@ trees-table =
 -- label 1 runs in object 1, not cleared, and v0 holds label 2, whose reply is in for object 1
 cells : Cells
 cells =
-    newCall (newCall (write (write (replicate size (pos 0)) objects (pos 1)) calls (pos 2)) 1 running 0 1 0 (pos 2 ∷ [])) 2 replied 1 1 0 []
+    newCall (newCall (write (write (replicate allCells (pos 0)) objects (pos 1)) calls (pos 2)) 1 running 0 1 0 (pos 2 ∷ [])) 2 replied 1 1 0 []
 
 here : Cells → Surroundings
 here c = record { cells = c; object = 1; label = 1 }

@@ -8,7 +8,7 @@ use Rattle.whole.specs.declared.Worked.{Worked}
 use Rattle.whole.specs.Whole.{applied}
 use Rattle.terms.specs.declared.OperatorFound.{OperatorFound}
 use Rattle.terms.specs.declared.OperatorFound.the-variants.{Is, Nothing}
-use Rattle.terms.specs.Answers.{groupedBy, noOther}
+use Rattle.terms.specs.Vocabulary.Answers.{groupedBy, noOther}
 use Rattle.terms.specs.Bytes.{Text, byteAt}
 use Rattle.terms.specs.Parsed.{Parsed, got, bad, next, repeated, joining, series}
 use Rattle.terms.proofs.Following.{next-of-got, next-of-bad}

@@ -1,5 +1,5 @@
 -- A proof that computes with the definitions of this crate and of all below it says `unfolding terms-open`. Assumes nothing.
-use Rattle.terms.specs.Answers
+use Rattle.terms.specs.Vocabulary.Answers
 use Rattle.terms.specs.Bytes
 use Rattle.terms.specs.Expressions
 use Rattle.terms.specs.Guards

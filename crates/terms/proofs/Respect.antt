@@ -16,7 +16,7 @@ use Rattle.terms.specs.declared.AtomStart.the-variants as AtomStart
 use Rattle.terms.specs.declared.Junction.{Junction}
 use Rattle.terms.specs.Guards.{GuardReading, atomStartOf, ampersand, bar, atomBy, atom, conjunction, disjunction, guard}
 use Rattle.terms.specs.Trees.{Guard, trees, guardTrees, fold, foldGuard}
-use Rattle.terms.specs.Nothing.{nothing, guardNothing}
+use Rattle.terms.specs.Vocabulary.Nothing.{nothing, guardNothing}
 use Rattle.terms.specs.Values.{Surroundings, values, guardValues, valueOf, guardOf}
 use Rattle.terms.proofs.Following.{mapped-mapped, mapped-twice, mapped-bad, respects-closed, respects-series}
 

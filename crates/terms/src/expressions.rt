@@ -15,12 +15,12 @@ ghost use Prim.Native.Nat.{_<_};
 ghost use lib.IntN.{pos};
 ghost use lib.ListN.{length};
 ghost use Rattle.whole.specs.declared.Worked.the-variants.{Value};
-ghost use Rattle.terms.specs.Answers.{asValue, asOperator, groupedBy, noOther, surroundings};
+ghost use Rattle.terms.specs.Vocabulary.Answers.{asValue, asOperator, groupedBy, noOther, surroundings};
 ghost use Rattle.terms.specs.Bytes.{bytes, byteAt};
 ghost use Rattle.terms.specs.Expressions as Expressions;
 ghost use Rattle.terms.specs.Leaves as Leaves;
 ghost use Rattle.terms.specs.Parsed.{mapped, word};
-ghost use Rattle.terms.specs.Readers as Readers;
+ghost use Rattle.terms.specs.Vocabulary.Readers as Readers;
 ghost use Rattle.terms.specs.Values as Values;
 
 // "a decimal 0..2147483647"

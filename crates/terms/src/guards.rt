@@ -13,12 +13,12 @@ ghost use Prim.Native.Nat.{_<_};
 ghost use lib.ListN.{length};
 ghost use Rattle.whole.specs.Whole.{truth};
 ghost use Rattle.whole.specs.declared.Worked.the-variants.{Value};
-ghost use Rattle.terms.specs.Answers.{asValue, surroundings};
+ghost use Rattle.terms.specs.Vocabulary.Answers.{asValue, surroundings};
 ghost use Rattle.terms.specs.Bytes.{byteAt};
 ghost use Rattle.terms.specs.Guards as Guards;
 ghost use Rattle.terms.specs.Leaves as Leaves;
 ghost use Rattle.terms.specs.Parsed.{mapped, closed};
-ghost use Rattle.terms.specs.Readers as Readers;
+ghost use Rattle.terms.specs.Vocabulary.Readers as Readers;
 ghost use Rattle.terms.specs.Values as Values;
 
 // What an atom begins with.

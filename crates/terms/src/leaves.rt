@@ -9,7 +9,8 @@ ghost use mathlib.Core.Path.{_≡_};
 ghost use Prim.Native.Nat.{_≤_, _<_};
 ghost use lib.ListN.{length};
 ghost use Rattle.whole.specs.Whole as Whole;
-ghost use Rattle.terms.specs.Answers as Answers;
+ghost use Rattle.whole.specs.Vocabulary.Naturals as Naturals;
+ghost use Rattle.terms.specs.Vocabulary.Answers as Answers;
 ghost use Rattle.terms.specs.Bytes as Bytes;
 ghost use Rattle.terms.specs.Leaves as Leaves;
 ghost use Rattle.terms.specs.Parsed as Parsed;
@@ -23,7 +24,7 @@ pub fn byte_at(s: &[u8], at: usize) -> u8
 
 // A byte as a digit.
 fn digit(b: u8) -> Natural
-    ensures { λ r. ⌜ r ≡ Whole.asNatural (Bytes.digit b) ⌝ }
+    ensures { λ r. ⌜ r ≡ Naturals.asNatural (Bytes.digit b) ⌝ }
 {
     if b < b'0' {
         return Natural::Not;
@@ -36,7 +37,7 @@ fn digit(b: u8) -> Natural
 
 // What stands at a place, as a digit.
 fn digit_at(s: &[u8], at: usize) -> Natural
-    ensures { λ r. ⌜ r ≡ Whole.asNatural (Bytes.digit (Bytes.byteAt (now (s .entry)) at)) ⌝ }
+    ensures { λ r. ⌜ r ≡ Naturals.asNatural (Bytes.digit (Bytes.byteAt (now (s .entry)) at)) ⌝ }
 {
     digit(byte_at(s, at))
 }

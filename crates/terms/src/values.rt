@@ -9,7 +9,7 @@ ghost use lib.IntN.{pos};
 ghost use Rattle.whole.specs.Whole.{truth};
 ghost use Rattle.whole.specs.declared.Worked.the-variants.{Value};
 ghost use Rattle.layout.specs.Layout as Layout;
-ghost use Rattle.terms.specs.Answers.{surroundings};
+ghost use Rattle.terms.specs.Vocabulary.Answers.{surroundings};
 ghost use Rattle.terms.specs.Values as Values;
 
 // A variable's cell: an attribute of the object, or a local of the call.

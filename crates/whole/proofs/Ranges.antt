@@ -15,7 +15,8 @@ use native.Mathlib.Nat.{mul-le-mul}
 use Rattle.whole.specs.declared.Natural.the-variants.{Is, Not}
 use Rattle.whole.specs.declared.Operator.{Operator}
 use Rattle.whole.specs.declared.Worked.the-variants.{Value, OutOfRange}
-use Rattle.whole.specs.Whole.{inRange, within, eqZ, apply, natural, asNatural}
+use Rattle.whole.specs.Whole.{inRange, within, eqZ, apply, natural}
+use Rattle.whole.specs.Vocabulary.Naturals.{asNatural}
 
 -- below the least, above the largest, and neither
 pub below-range : (z : ℤ) → ltZ z (negsuc 2147483647) ≡ true → OutOfRange ≡ within z

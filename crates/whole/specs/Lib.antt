@@ -2,3 +2,4 @@
 pub mod Plain
 pub mod Refusals
 pub mod Whole
+pub mod Vocabulary

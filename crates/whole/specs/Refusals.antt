@@ -38,8 +38,8 @@ abbrev pub noConfiguration : ℕ
 noConfiguration = 11
 
 -- 12: "kind, or object or label not in use"
-abbrev pub noChoice : ℕ
-noChoice = 12
+abbrev pub notInUse : ℕ
+notInUse = 12
 
 -- 13: "answers length differs"
 abbrev pub answersDiffer : ℕ

@@ -56,11 +56,6 @@ unfoldable pub natural : ℤ → Option ℕ
 natural (pos n) = some n
 natural (negsuc n) = none
 
--- the same as the code's enum
-unfoldable pub asNatural : Option ℕ → Natural
-asNatural (some n) = Is n
-asNatural none = Not
-
 -- a cell that is known to be a natural number, as that number
 unfoldable pub nat : ℤ → ℕ
 nat (pos n) = n

@@ -2,6 +2,7 @@
 ghost use mathlib.Core.Path.{_≡_};
 ghost use lib.IntN.{pos};
 ghost use Rattle.whole.specs.Whole as Whole;
+ghost use Rattle.whole.specs.Vocabulary.Naturals as Naturals;
 ghost use Rattle.whole.specs.declared.Operator.the-variants.{Plus, Minus, Times, Less, Equal};
 
 pub mod refusals;
@@ -118,7 +119,7 @@ pub fn is_true(x: i32) -> bool
 }
 
 pub fn as_natural(z: i32) -> Natural
-    ensures { λ r. ⌜ r ≡ Whole.asNatural (Whole.natural z) ⌝ }
+    ensures { λ r. ⌜ r ≡ Naturals.asNatural (Whole.natural z) ⌝ }
 {
     if z < 0 {
         return Natural::Not;

@@ -1,5 +1,5 @@
 -- `creol::creol_judge` meets its contract. Assumes nothing.
-use Rattle.creol.specs.Packed.{packed}
+use Rattle.creol.specs.Vocabulary.Packed.{packed}
 use borrow.Author.Needs.{needs}
 use mathlib.Core.Path.{ap, _∙_}
 use Rattle.creol.proofs.creol_judge.Statement.{statement}

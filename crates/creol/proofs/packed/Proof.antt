@@ -1,5 +1,5 @@
 -- `creol::packed` meets its contract. Assumes nothing.
-use Rattle.creol.specs.Packed.{packed}
+use Rattle.creol.specs.Vocabulary.Packed.{packed}
 use borrow.Author.Needs.{needs}
 use mathlib.Core.Path.{refl}
 use Rattle.creol.proofs.packed.Statement.{statement}

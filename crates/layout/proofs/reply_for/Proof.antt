@@ -6,7 +6,7 @@ use mathlib.Core.Path.{_≡_, sym, ap, _∙_}
 use mir.Syntax.{w32}
 use mir.ValLaws.{toZ-ofZ}
 use Rattle.layout.proofs.Numbers.{no-label, a-label}
-use Rattle.layout.specs.Found.{asLabel}
+use Rattle.layout.specs.Vocabulary.Found.{asLabel}
 use Rattle.layout.specs.Stages.{labelOf, onlyIf}
 use Rattle.layout.proofs.reply_for.Statement.{statement}
 use Rattle.layout.proofs.reply_for.Tie as tie

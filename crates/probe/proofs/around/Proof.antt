@@ -1,6 +1,6 @@
 -- `probe::around` meets its contract. Assumes nothing.
 use mathlib.Core.Path.{refl}
-use Rattle.probe.specs.Packed.{around}
+use Rattle.probe.specs.Vocabulary.Packed.{around}
 use Rattle.probe.proofs.around.Statement.{statement}
 use Rattle.probe.proofs.around.Tie as tie
 

@@ -4,7 +4,7 @@ use borrow.Author.Needs.{needs}
 use mathlib.Core.Path.{ap, ap₂, _∙_}
 use mir.Syntax.{w32}
 use mir.ValLaws.{toZ-ofZ}
-use Rattle.probe.specs.Packed.{packedAt, packed, bits}
+use Rattle.probe.specs.Vocabulary.Packed.{packedAt, packedValue, bits}
 use Rattle.probe.proofs.pack.Statement.{statement}
 use Rattle.probe.proofs.pack.Tie as tie
 
@@ -45,15 +45,15 @@ add-result-3 : tie.Need-add-result-3
 add-result-3 c = search needs
 
 returns : tie.Need-returns
-unfolding packed
+unfolding packedValue
 returns c = rw (c .before .before .r .given .1) (ap (_+ 131072) (c .place .ensures .0))
 
 returns-2 : tie.Need-returns-2
-unfolding packed packedAt
+unfolding packedValue packedAt
 returns-2 c = rw (c .before .before .before .before .r2 .given .1, c .before .enum-told .given .1) (ap (_+ 65536) (c .place2 .ensures .0))
 
 returns-3 : tie.Need-returns-3
-unfolding packed packedAt
+unfolding packedValue packedAt
 returns-3 c =
     rw (c .before .before .before .before .before .before .r2 .given .1, c .before .before .before .w .given .1)
     (ap₂ _+_ (c .before .place3 .ensures .0)

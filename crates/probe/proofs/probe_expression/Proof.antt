@@ -2,10 +2,10 @@
 use borrow.Author.Needs.{needs}
 use denote.Ref.{now}
 use mathlib.Core.Path.{ap, _∙_}
-use Rattle.probe.specs.Packed.{packed}
-use Rattle.terms.specs.Answers.{asValue}
+use Rattle.probe.specs.Vocabulary.Packed.{packedValue}
+use Rattle.terms.specs.Vocabulary.Answers.{asValue}
 use Rattle.terms.specs.Expressions.{brackets}
-use Rattle.terms.specs.Readers.{expressionRead}
+use Rattle.terms.specs.Vocabulary.Readers.{expressionRead}
 use Rattle.probe.proofs.probe_expression.Statement.{statement}
 use Rattle.probe.proofs.probe_expression.Tie as tie
 
@@ -22,7 +22,7 @@ returns : tie.Need-returns
 returns c =
     let s = c .before .before .before .before in
     c .pack .ensures
-    ∙ ap packed (c .before .expression .ensures ∙ ap (λ a. asValue (expressionRead (now (s .args .cells)) a (now (s .args .s)) brackets (s .args .at))) (c .before .before .around .ensures))
+    ∙ ap packedValue (c .before .expression .ensures ∙ ap (λ a. asValue (expressionRead (now (s .args .cells)) a (now (s .args .s)) brackets (s .args .at))) (c .before .before .around .ensures))
 
 pub probe-expression-spec : {M : Type 1} → statement M
 probe-expression-spec =

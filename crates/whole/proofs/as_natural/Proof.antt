@@ -10,7 +10,8 @@ use mir.Syntax.{w32, w64}
 use mir.Val.{Fits, SFits, ofZ, toZ}
 use mir.ValLaws.{toZ-ofZ}
 use Rattle.whole.specs.declared.Natural.the-variants.{Is, Not}
-use Rattle.whole.specs.Whole.{natural, asNatural}
+use Rattle.whole.specs.Whole.{natural}
+use Rattle.whole.specs.Vocabulary.Naturals.{asNatural}
 use Rattle.whole.proofs.as_natural.Statement.{statement}
 use Rattle.whole.proofs.as_natural.Tie as tie
 

@@ -4,7 +4,8 @@ use mathlib.Core.Path.{refl, sym, ap, _∙_}
 use mir.Syntax.{w32}
 use mir.ValLaws.{toZ-ofZ}
 use Rattle.whole.proofs.Ranges.{natural-is, natural-not}
-use Rattle.whole.specs.Whole.{eqZ, natural, asNatural}
+use Rattle.whole.specs.Whole.{eqZ, natural}
+use Rattle.whole.specs.Vocabulary.Naturals.{asNatural}
 use Rattle.whole.proofs.is_number.Statement.{statement}
 use Rattle.whole.proofs.is_number.Tie as tie
 

@@ -2,7 +2,8 @@
 use borrow.Author.Needs.{needs}
 use mathlib.Core.List.{[], _∷_}
 use mathlib.Core.Path.{_≡_, refl}
-use Rattle.code.specs.Blocks.{shapeAt, shapeNumber}
+use Rattle.code.specs.Blocks.{shapeNumber}
+use Rattle.code.specs.Vocabulary.Shapes.{shapeAt}
 use Rattle.code.proofs.Shapes.{of-each}
 use Rattle.code.proofs.blocks.shape_number.Statement.{statement}
 use Rattle.code.proofs.blocks.shape_number.Tie as tie

@@ -11,7 +11,7 @@ use Rattle.code.specs.declared.Shape.{Shape}
 use Rattle.code.specs.declared.Shape.the-variants as Shape
 use Rattle.code.specs.declared.Statement as Declared
 use Rattle.code.specs.declared.Statement.the-variants as Said
-use Rattle.code.specs.OpenBlocks.{shapeSaid}
+use Rattle.code.specs.Vocabulary.OpenBlocks.{shapeSaid}
 use Rattle.code.proofs.Statement.{the-type}
 use Rattle.code.proofs.blocks.shape_of.Statement.{statement}
 use Rattle.code.proofs.blocks.shape_of.Tie as tie

@@ -3,8 +3,9 @@ use borrow.Author.Needs.{needs}
 use mathlib.Core.List.{[], _∷_}
 use mathlib.Core.Path.{_≡_, refl, sym, ap, _∙_}
 use Rattle.code.specs.declared.BlocksAfter.the-variants as After
-use Rattle.code.specs.Blocks.{untilElse, untilFi, untilOd, rank, shapeAt, through as throughOf, closing, opening, without, with}
-use Rattle.code.specs.OpenBlocks.{digit, asBlocks}
+use Rattle.code.specs.Blocks.{untilElse, untilFi, untilOd, rank, through as throughOf, closing, opening, without, with}
+use Rattle.code.specs.Vocabulary.Shapes.{shapeAt}
+use Rattle.code.specs.Vocabulary.OpenBlocks.{blockDigit, asBlocks}
 use Rattle.code.proofs.OpenBlocks.{after-if, after-while, after-fi, after-od}
 use Rattle.code.proofs.Shapes.{of-each}
 use Rattle.code.proofs.blocks.through.Statement.{statement}
@@ -41,7 +42,7 @@ without-requires-2 : tie.Need-without-requires-2
 without-requires-2 c κs = search needs
 
 returns : tie.Need-returns
-unfolding shapeAt digit rank
+unfolding shapeAt blockDigit rank
 returns c = λ bs f.
     let call = c .opened in
     of-each (λ s. call .result ≡ asBlocks (throughOf s bs)) (c .before .before .before .args .shape) (0 ∷ [])
@@ -54,21 +55,21 @@ returns-2 c = λ bs f.
     of-each (λ s. call .result ≡ asBlocks (throughOf s bs)) (c .before .before .before .args .shape) (1 ∷ []) (call .ensures bs f, tt) (c .before .before .match .keys2)
 
 returns-3 : tie.Need-returns-3
-unfolding shapeAt digit rank
+unfolding shapeAt blockDigit rank
 returns-3 c = λ bs f.
     let call = c .without in
     of-each (λ s. call .result ≡ asBlocks (throughOf s bs)) (c .before .before .before .args .shape) (2 ∷ [])
     (call .ensures untilFi bs refl f ∙ sym (ap asBlocks (after-fi bs)), tt) (c .before .before .match .keys3)
 
 returns-4 : tie.Need-returns-4
-unfolding shapeAt digit rank
+unfolding shapeAt blockDigit rank
 returns-4 c = λ bs f.
     let call = c .opened2 in
     of-each (λ s. call .result ≡ asBlocks (throughOf s bs)) (c .before .before .before .args .shape) (3 ∷ [])
     (call .ensures untilOd bs refl f ∙ sym (ap asBlocks (after-while bs)), tt) (c .before .before .match .keys4)
 
 returns-5 : tie.Need-returns-5
-unfolding shapeAt digit rank
+unfolding shapeAt blockDigit rank
 returns-5 c = λ bs f.
     let call = c .without2 in
     of-each (λ s. call .result ≡ asBlocks (throughOf s bs)) (c .before .before .before .args .shape) (4 ∷ [])

@@ -8,7 +8,7 @@ use types.Run.{OneOf, miss}
 use Rattle.code.specs.declared.NewFound.the-variants as New
 use Rattle.code.specs.declared.Statement as Declared
 use Rattle.code.specs.declared.Statement.the-variants as Said
-use Rattle.code.specs.Creating.{newSaid, asNew}
+use Rattle.code.specs.Vocabulary.Creating.{newSaid, asNew}
 use Rattle.code.proofs.Statement.{the-type}
 use Rattle.code.proofs.creating.new_of.Statement.{statement}
 use Rattle.code.proofs.creating.new_of.Tie as tie

@@ -3,8 +3,9 @@ use Prim.Native.Nat.{_+_}
 use mathlib.Core.Bool.{true}
 use mathlib.Core.List.{[], _∷_}
 use mathlib.Core.Path.{_≡_, refl, sym, ap, _∙_}
-use Rattle.code.specs.Blocks.{shapeAt, shapesIn, opening, closing}
-use Rattle.code.specs.Counting.{present}
+use Rattle.code.specs.Blocks.{opening, closing}
+use Rattle.code.specs.Vocabulary.Shapes.{shapeAt, shapesIn}
+use Rattle.code.specs.Vocabulary.Counting.{present}
 use Rattle.code.specs.Partners.{ahead, behind, goesFrom}
 use Rattle.code.proofs.Going.{goes-by}
 use Rattle.code.proofs.Shapes.{of-each}

@@ -1,6 +1,6 @@
 -- `code::partners::onward` meets its contract. Assumes nothing.
 use mathlib.Core.Path.{ap, _∙_}
-use Rattle.whole.specs.Whole.{asNatural}
+use Rattle.whole.specs.Vocabulary.Naturals.{asNatural}
 use Rattle.code.proofs.Counting.{counted-onward}
 use borrow.Author.Needs.{needs}
 use Rattle.code.proofs.partners.onward.Statement.{statement}

@@ -2,8 +2,9 @@
 use mathlib.Core.Bool.{true, false}
 use mathlib.Core.List.{[], _∷_}
 use mathlib.Core.Path.{_≡_, refl}
-use Rattle.code.specs.Blocks.{shapeAt, opening}
-use Rattle.code.specs.Counting.{present}
+use Rattle.code.specs.Blocks.{opening}
+use Rattle.code.specs.Vocabulary.Shapes.{shapeAt}
+use Rattle.code.specs.Vocabulary.Counting.{present}
 use Rattle.code.proofs.Shapes.{of-each}
 use Rattle.code.proofs.partners.opens.Statement.{statement}
 use Rattle.code.proofs.partners.opens.Tie as tie

@@ -3,7 +3,7 @@ use Prim.Native.Nat.{_+_, _≤_}
 use borrow.Author.Needs.{needs}
 use mathlib.Core.Path.{sym, _∙_}
 use native.Mathlib.Omega.{arith}
-use Rattle.code.specs.Blocks.{shapesIn}
+use Rattle.code.specs.Vocabulary.Shapes.{shapesIn}
 use Rattle.code.proofs.Searches.{Backward}
 use Rattle.code.proofs.Going.{backward-most, begins-backward, ends-backward, met-backward, goes-backward}
 use Rattle.code.proofs.partners.partner_before.Statement.{statement}

@@ -4,7 +4,7 @@ use borrow.Author.Needs.{needs}
 use lib.ListN.{length}
 use mathlib.Core.Path.{sym, ap, _∙_}
 use native.Mathlib.Omega.{arith}
-use Rattle.code.specs.Blocks.{shapesIn}
+use Rattle.code.specs.Vocabulary.Shapes.{shapesIn}
 use Rattle.code.proofs.Searches.{Onward}
 use Rattle.code.proofs.Going.{onward-most, begins-onward, ends-onward, met-onward, goes-onward}
 use Rattle.code.proofs.partners.past_partner.Statement.{statement}

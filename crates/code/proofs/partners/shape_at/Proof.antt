@@ -3,7 +3,7 @@ use Prim.Native.Nat.{ℕ, _+_, _≤_, zero-le}
 use mathlib.Core.Path.{_≡_, sym, ap}
 use Rattle.code.proofs.Shapes.{shape-plain}
 use native.Mathlib.Omega.{arith}
-use Rattle.code.specs.Blocks.{shapeAt}
+use Rattle.code.specs.Vocabulary.Shapes.{shapeAt}
 use Rattle.code.proofs.partners.shape_at.Statement.{statement}
 use Rattle.code.proofs.partners.shape_at.Tie as tie
 

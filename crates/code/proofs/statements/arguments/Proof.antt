@@ -3,8 +3,8 @@ use borrow.Author.Needs.{needs}
 use mathlib.Core.Path.{_≡_, sym, ap, _∙_}
 use native.Mathlib.Omega.{arith}
 use Rattle.code.proofs.Gathering.{arguments-none, arguments-bad, arguments-got, one-more}
-use Rattle.code.specs.Answers.{noArguments, withOne, asList}
-use Rattle.code.specs.Readers.{gatheredRead}
+use Rattle.code.specs.Vocabulary.Answers.{noArguments, withOne, asList}
+use Rattle.code.specs.Vocabulary.Readers.{gatheredRead}
 use Rattle.code.specs.declared.Arguments.{Arguments}
 use Rattle.terms.proofs.Answers.{value-got, value-bad}
 use Rattle.terms.proofs.Moving.{within-text}

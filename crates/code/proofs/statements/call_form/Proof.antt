@@ -2,7 +2,7 @@
 use borrow.Author.Needs.{needs}
 use mathlib.Core.Path.{sym, ap, _∙_}
 use Rattle.code.proofs.Ending.{code-bad, after-got, after-bad}
-use Rattle.code.specs.Answers.{asCode}
+use Rattle.code.specs.Vocabulary.Answers.{asCode}
 use Rattle.code.specs.Reader.{target, operand, rest}
 use Rattle.terms.proofs.Answers.{variable-got, variable-bad, value-got, value-bad}
 use Rattle.terms.specs.Parsed.{ended}

@@ -2,7 +2,7 @@
 use borrow.Author.Needs.{needs}
 use borrow.Author.Tests.{eq-eqb, ne-eqb}
 use mathlib.Core.Path.{refl}
-use Rattle.code.specs.Answers.{finished}
+use Rattle.code.specs.Vocabulary.Answers.{finished}
 use Rattle.code.proofs.statements.finished.Statement.{statement}
 use Rattle.code.proofs.statements.finished.Tie as tie
 

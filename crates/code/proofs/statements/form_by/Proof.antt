@@ -1,7 +1,7 @@
 -- `code::statements::form_by` meets its contract. Assumes nothing.
 use mathlib.Core.Path.{sym, ap}
 use Rattle.code.proofs.Forms.{beginning-none}
-use Rattle.code.specs.Answers.{asForm}
+use Rattle.code.specs.Vocabulary.Answers.{asForm}
 use Rattle.code.specs.Reader.{beginning, initials}
 use Rattle.code.proofs.statements.form_by.Statement.{statement}
 use Rattle.code.proofs.statements.form_by.Tie as tie

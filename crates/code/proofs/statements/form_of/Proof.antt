@@ -2,7 +2,7 @@
 use borrow.Author.Needs.{needs}
 use mathlib.Core.Path.{sym, ap, _∙_}
 use Rattle.code.proofs.Forms.{form-other, form-skip, form-set}
-use Rattle.code.specs.Answers.{asForm}
+use Rattle.code.specs.Vocabulary.Answers.{asForm}
 use Rattle.code.specs.Reader.{beginning, initials}
 use Rattle.code.proofs.statements.form_of.Statement.{statement}
 use Rattle.code.proofs.statements.form_of.Tie as tie

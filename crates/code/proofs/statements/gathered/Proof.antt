@@ -8,15 +8,15 @@ use native.Mathlib.Omega.{arith}
 use Rattle.code.proofs.Gathering.{comma-some, comma-none, comma-zero, one-more}
 use Rattle.code.proofs.statements.gathered.Statement.{statement}
 use Rattle.code.proofs.statements.gathered.Tie as tie
-use Rattle.code.specs.Answers.{withOne, asList}
+use Rattle.code.specs.Vocabulary.Answers.{withOne, asList}
 use Rattle.code.specs.Reader.{comma}
-use Rattle.code.specs.Readers.{gatheredRead}
+use Rattle.code.specs.Vocabulary.Readers.{gatheredRead}
 use Rattle.terms.proofs.Answers.{value-got, value-bad}
 use Rattle.terms.proofs.Series.{operator-within, joined-stop, counted-go, counted-fail}
 use Rattle.terms.specs.Bytes.{byteAt}
 use Rattle.terms.specs.Expressions.{brackets}
 use Rattle.terms.specs.Parsed.{repeated}
-use Rattle.terms.specs.Readers.{expressionRead}
+use Rattle.terms.specs.Vocabulary.Readers.{expressionRead}
 use Rattle.terms.specs.declared.ReadWord.the-variants as Word
 
 abbrev Inv-loop : tie.InvT-loop

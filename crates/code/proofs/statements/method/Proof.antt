@@ -3,7 +3,7 @@ use borrow.Author.Needs.{needs}
 use mathlib.Core.Path.{refl, sym, ap, _∙_}
 use Rattle.code.proofs.Ending.{code-bad, after-got, after-bad}
 use Rattle.code.proofs.Listing.{listed-is}
-use Rattle.code.specs.Answers.{asStatement, argumentsOf, asCode}
+use Rattle.code.specs.Vocabulary.Answers.{asStatement, argumentsOf, asCode}
 use Rattle.code.specs.Statements.{call}
 use Rattle.terms.proofs.Answers.{number-got, number-bad}
 use Rattle.terms.specs.Parsed.{ended}

@@ -4,7 +4,7 @@ use mathlib.Core.Path.{refl, sym, ap, _∙_}
 use native.Mathlib.Omega.{arith}
 use Rattle.code.proofs.Ending.{code-bad, after-got, after-bad}
 use Rattle.code.proofs.Listing.{listed-is, any-classes}
-use Rattle.code.specs.Answers.{asStatement, argumentsOf, asCode}
+use Rattle.code.specs.Vocabulary.Answers.{asStatement, argumentsOf, asCode}
 use Rattle.code.specs.Reader.{target, rest}
 use Rattle.code.specs.Statements.{new}
 use Rattle.terms.proofs.Answers.{variable-got, variable-bad, number-got, number-bad}

@@ -1,6 +1,6 @@
 -- `code::statements::no_arguments` meets its contract. Assumes nothing.
 use mathlib.Core.Path.{refl}
-use Rattle.code.specs.Answers.{noArguments}
+use Rattle.code.specs.Vocabulary.Answers.{noArguments}
 use Rattle.code.proofs.statements.no_arguments.Statement.{statement}
 use Rattle.code.proofs.statements.no_arguments.Tie as tie
 

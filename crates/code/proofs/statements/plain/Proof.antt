@@ -1,7 +1,7 @@
 -- `code::statements::plain` meets its contract. Assumes nothing.
 use borrow.Author.Needs.{needs}
 use mathlib.Core.Path.{ap, _∙_}
-use Rattle.code.specs.Answers.{finished}
+use Rattle.code.specs.Vocabulary.Answers.{finished}
 use Rattle.code.proofs.statements.plain.Statement.{statement}
 use Rattle.code.proofs.statements.plain.Tie as tie
 

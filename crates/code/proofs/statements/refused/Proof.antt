@@ -1,6 +1,6 @@
 -- `code::statements::refused` meets its contract. Assumes nothing.
 use borrow.Author.Needs.{needs}
-use Rattle.code.specs.Answers.{refusedAt}
+use Rattle.code.specs.Vocabulary.Answers.{refusedAt}
 use Rattle.code.specs.declared.ReadStatement.the-variants.{Bad}
 use Rattle.code.proofs.statements.refused.Statement.{statement}
 use Rattle.code.proofs.statements.refused.Tie as tie

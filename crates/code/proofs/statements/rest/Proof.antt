@@ -2,7 +2,7 @@
 use borrow.Author.Needs.{needs}
 use mathlib.Core.Path.{refl, _∙_}
 use Rattle.code.proofs.Ending.{code-got}
-use Rattle.code.specs.Answers.{asStatement, argumentsOf}
+use Rattle.code.specs.Vocabulary.Answers.{asStatement, argumentsOf}
 use Rattle.code.specs.Reader.{target, operand, listed, arguments, rest as restOf}
 use Rattle.code.specs.Statements.{skip, else, fi, od}
 use Rattle.code.proofs.statements.rest.Statement.{statement}

@@ -5,7 +5,7 @@ use native.Mathlib.Omega.{arith}
 use Rattle.terms.proofs.Answers.{value-got, value-bad}
 use Rattle.terms.proofs.Moving.{within-text}
 use Rattle.terms.proofs.Nesting.{closed-fail, closed-go, closed-none}
-use Rattle.terms.specs.Answers.{asValue}
+use Rattle.terms.specs.Vocabulary.Answers.{asValue}
 use Rattle.code.proofs.statements.spaced.Statement.{statement}
 use Rattle.code.proofs.statements.spaced.Tie as tie
 

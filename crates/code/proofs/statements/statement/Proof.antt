@@ -3,7 +3,7 @@ use borrow.Author.Needs.{needs}
 use mathlib.Core.Path.{sym, ap, _∙_}
 use Rattle.code.proofs.Ending.{code-bad, after-got, after-bad}
 use Rattle.code.proofs.Forms.{form-some, form-none, statement-none, statement-some}
-use Rattle.code.specs.Answers.{asCode}
+use Rattle.code.specs.Vocabulary.Answers.{asCode}
 use Rattle.terms.proofs.Answers.{word-got, word-bad}
 use Rattle.terms.specs.Parsed.{ended}
 use Rattle.code.proofs.statements.statement.Statement.{statement}

@@ -5,7 +5,7 @@ use native.Mathlib.Omega.{arith}
 use Rattle.terms.proofs.Answers.{variable-got, variable-bad}
 use Rattle.terms.proofs.Moving.{within-text}
 use Rattle.terms.proofs.Nesting.{closed-fail, closed-go, closed-none}
-use Rattle.terms.specs.Answers.{asVariable}
+use Rattle.terms.specs.Vocabulary.Answers.{asVariable}
 use Rattle.code.proofs.statements.target.Statement.{statement}
 use Rattle.code.proofs.statements.target.Tie as tie
 

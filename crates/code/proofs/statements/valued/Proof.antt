@@ -2,7 +2,7 @@
 use borrow.Author.Needs.{needs}
 use mathlib.Core.Path.{sym, _∙_}
 use Rattle.code.proofs.Ending.{code-bad, code-got, mapped-is-got, mapped-is-bad}
-use Rattle.code.specs.Answers.{asStatement, argumentsOf}
+use Rattle.code.specs.Vocabulary.Answers.{asStatement, argumentsOf}
 use Rattle.code.specs.Statements.{if, while, return}
 use Rattle.terms.proofs.Answers.{value-got, value-bad}
 use Rattle.code.proofs.statements.valued.Statement.{statement}

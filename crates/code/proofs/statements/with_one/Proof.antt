@@ -5,7 +5,7 @@ use lib.ListN.{set}
 use mathlib.Core.Path.{refl, ap, _∙_}
 use mir.Syntax.{w32}
 use mir.ValLaws.{toZ-ofZ}
-use Rattle.code.specs.Answers.{withOne}
+use Rattle.code.specs.Vocabulary.Answers.{withOne}
 use Rattle.code.proofs.statements.with_one.Statement.{statement}
 use Rattle.code.proofs.statements.with_one.Tie as tie
 

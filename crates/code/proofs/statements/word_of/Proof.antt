@@ -2,7 +2,7 @@
 use borrow.Author.Needs.{needs}
 use mathlib.Core.Path.{sym, ap, _∙_}
 use Rattle.code.specs.Reader.{wordOf}
-use Rattle.terms.specs.Answers.{asWord}
+use Rattle.terms.specs.Vocabulary.Answers.{asWord}
 use Rattle.terms.specs.Parsed.{word}
 use Rattle.code.proofs.statements.word_of.Statement.{statement}
 use Rattle.code.proofs.statements.word_of.Tie as tie

@@ -1,5 +1,5 @@
 -- `model::automaton::is_last` meets its contract. Assumes nothing.
-use Rattle.model.specs.Counts.{isLast}
+use Rattle.model.specs.Vocabulary.Counts.{isLast}
 use borrow.Author.Needs.{needs}
 use mathlib.Core.Path.{refl}
 use Rattle.model.proofs.automaton.is_last.Statement.{statement}

@@ -2,7 +2,7 @@
 use Rattle.model.proofs.Changes.{linesSet, lines-begun}
 use borrow.Author.Needs.{needs}
 use mathlib.Core.Path.{ap, _∙_}
-use Rattle.model.specs.Counts.{ofMethod}
+use Rattle.model.specs.Vocabulary.Counts.{ofMethod}
 use Rattle.model.specs.declared.Key.the-variants as Key
 use Rattle.model.proofs.automaton.lines_begun.Statement.{statement}
 use Rattle.model.proofs.automaton.lines_begun.Tie as tie

@@ -1,6 +1,6 @@
 -- `model::automaton::method_closed` meets its contract. Assumes nothing.
 use Rattle.model.proofs.Changes.{method-later}
-use Rattle.model.specs.Automaton.{methodClosed}
+use Rattle.model.specs.Vocabulary.Automaton.{methodClosed}
 use borrow.Author.Needs.{needs}
 use mathlib.Core.Path.{_∙_}
 use native.Mathlib.Omega.{arith}

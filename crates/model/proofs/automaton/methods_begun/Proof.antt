@@ -1,6 +1,6 @@
 -- `model::automaton::methods_begun` meets its contract. Assumes nothing.
 use Rattle.model.proofs.Changes.{methods-begun}
-use Rattle.model.specs.Automaton.{numbered}
+use Rattle.model.specs.Vocabulary.Automaton.{numberFed}
 use borrow.Author.Needs.{needs}
 use mathlib.Core.Path.{_∙_}
 use native.Mathlib.Omega.{arith}
@@ -14,7 +14,7 @@ next-method-requires : tie.Need-next-method-requires
 next-method-requires c κs = rw (c .with-class .ensures) (omega arith)
 
 returns : tie.Need-returns
-unfolding numbered
+unfolding numberFed
 returns c = λ st e. c .next-method .ensures _ (c .before .with-class .ensures ∙ methods-begun _ st e _)
 
 pub methods-begun-spec : {M : Type 1} → statement M

@@ -3,8 +3,8 @@ use borrow.Author.Needs.{needs}
 use mathlib.Core.Path.{_≡_, sym, ap, _∙_}
 use native.Mathlib.Omega.{arith}
 use Rattle.model.proofs.Changes.{lineMore, line-joined, stated-last, stated-before}
-use Rattle.model.specs.Automaton.{counted}
-use Rattle.model.specs.Counts.{ofMethod}
+use Rattle.model.specs.Vocabulary.Automaton.{countsOf}
+use Rattle.model.specs.Vocabulary.Counts.{ofMethod}
 use Rattle.model.specs.declared.Key.the-variants as Key
 use Rattle.model.proofs.automaton.stated.Statement.{statement}
 use Rattle.model.proofs.automaton.stated.Tie as tie
@@ -31,14 +31,14 @@ returns : tie.Need-returns
 returns c = λ at code bs b st e.
     let l = c .before .before .before in
     c .method-closed .ensures _ (after l ∙ line-joined _ st e at code bs _ b)
-    ∙ ap counted (stated-last _ st e at code bs (sym (c .before .before .is-last .ensures) ∙ c .before .if1 .taken))
+    ∙ ap countsOf (stated-last _ st e at code bs (sym (c .before .before .is-last .ensures) ∙ c .before .if1 .taken))
 
 returns-2 : tie.Need-returns-2
 returns-2 c = λ at code bs b st e.
     let l = c .before .before in
     after l
     ∙ line-joined _ st e at code bs _ b
-    ∙ ap counted (stated-before _ st e at code bs (sym (c .before .is-last .ensures) ∙ c .if1 .left))
+    ∙ ap countsOf (stated-before _ st e at code bs (sym (c .before .is-last .ensures) ∙ c .if1 .left))
 
 pub stated-spec : {M : Type 1} → statement M
 stated-spec =

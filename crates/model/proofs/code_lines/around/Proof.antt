@@ -1,5 +1,5 @@
 -- `model::code_lines::around` meets its contract. Assumes nothing.
-use Rattle.model.specs.Filling.{limitsCounted}
+use Rattle.model.specs.Vocabulary.Filling.{limitsCounted}
 use borrow.Author.Needs.{needs}
 use mathlib.Core.Path.{refl}
 use Rattle.model.proofs.code_lines.around.Statement.{statement}

@@ -1,11 +1,11 @@
 -- `model::code_lines::block_line` meets its contract. Assumes nothing.
 use Rattle.code.proofs.Told.{is-told}
 use Rattle.code.specs.Blocks.{Block, shapeOf, through}
-use Rattle.code.specs.OpenBlocks.{packed, shapeSaid}
+use Rattle.code.specs.Vocabulary.OpenBlocks.{packedBlocks, shapeSaid}
 use Rattle.code.specs.Statements.{Code}
 use Rattle.model.proofs.BlockFed.{open-same, block-unmatched, block-open, block-refused, block-fed}
-use Rattle.model.specs.Automaton.{State, counted, asFed}
-use Rattle.model.specs.Filling.{filledBy}
+use Rattle.model.specs.Vocabulary.Automaton.{State, countsOf, asFed}
+use Rattle.model.specs.Vocabulary.Filling.{filledBy}
 use Rattle.model.specs.declared.Fed.the-variants as Fed
 use borrow.Author.Needs.{needs}
 use mathlib.Core.List.{List}
@@ -19,8 +19,8 @@ shape-of : (c : tie.After-open) → c .before .before .before .shape-of .result 
 shape-of c = c .before .before .before .shape-of .ensures
 
 opened : (c : tie.After-open) (st : State) (code : Code) → (let a = c .before .before .before .before .before .args in
-    a .counts ≡ counted st → shapeSaid (a .statement) ≡ shapeOf code
-    → (bs : List Block) × (through (shapeOf code) (st .method .blocks) ≡ some bs) × (c .open .given .0 .0 ≡ packed bs))
+    a .counts ≡ countsOf st → shapeSaid (a .statement) ≡ shapeOf code
+    → (bs : List Block) × (through (shapeOf code) (st .method .blocks) ≡ some bs) × (c .open .given .0 .0 ≡ packedBlocks bs))
 opened c st code = λ e w. block-open _ st e code _ (shape-of c ∙ w) _ (sym (c .open .given .1) ∙ c .before .before .through .ensures _ (open-same _ st e))
 
 shape-of-requires : tie.Need-shape-of-requires

@@ -2,7 +2,7 @@
 use Prim.Native.Nat.{_+_, _-_, _≤_, _<_}
 use Rattle.model.proofs.CodeFed.{new-fits, refused-tells, code-tells}
 use Rattle.model.proofs.LinesHeld.{held-ready, held-classes}
-use Rattle.model.specs.Filling.{Ready}
+use Rattle.model.specs.Vocabulary.Filling.{Ready}
 use borrow.Author.Needs.{needs}
 use denote.Ref.{now}
 use lib.ListN.{length, drop, length-take, length-drop}

@@ -1,5 +1,5 @@
 -- `model::code_lines::line_stated` meets its contract. Assumes nothing.
-use Rattle.model.specs.Filling.{linePut, classPut, methodPut, codePut}
+use Rattle.model.specs.Vocabulary.Filling.{linePut, classPut, methodPut, codePut}
 use borrow.Author.Needs.{needs}
 use denote.Ref.{now}
 use mathlib.Core.Path.{ap, _∙_}

@@ -8,11 +8,11 @@ use borrow.Author.Tests.{not-true, not-false}
 use lib.ListN.{length}
 use Rattle.terms.specs.Bytes.{Text}
 use Rattle.model.proofs.CountsOfNew.{counts-onward, counts-here, counts-end, verdict-refusal, verdict-model}
-use Rattle.model.specs.Belonging.{ClassTold}
-use Rattle.model.specs.Creations.{creationsFrom, creationsIn}
+use Rattle.model.specs.Vocabulary.Belonging.{ClassTold}
+use Rattle.model.specs.Vocabulary.Creations.{creationsFrom, creationsIn}
 use Rattle.model.specs.Judge.{countsJudged, verdictOf}
 use Rattle.model.specs.Model.{Model}
-use Rattle.model.specs.Table.{Rows}
+use Rattle.model.specs.Vocabulary.Table.{Rows}
 use Rattle.model.proofs.creations.counts_judged.Statement.{statement}
 use Rattle.model.proofs.creations.counts_judged.Tie as tie
 

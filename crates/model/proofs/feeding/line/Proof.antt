@@ -2,11 +2,11 @@
 use Prim.Native.Nat.{_+_, _-_, _≤_}
 use Rattle.model.proofs.LineTells.{refused-told, named, feed-unkeyed, feed-valued, value-part}
 use Rattle.model.proofs.ReadBounds.{key-within}
-use Rattle.model.specs.Automaton.{valueLine}
-use Rattle.model.specs.Filling.{TellsAfter}
-use Rattle.model.specs.Keys.{nameOf, asked}
+use Rattle.model.specs.Vocabulary.Automaton.{valueLine}
+use Rattle.model.specs.Vocabulary.Filling.{TellsAfter}
+use Rattle.model.specs.Vocabulary.Keys.{nameOf, asked}
 use Rattle.terms.proofs.Answers.{word-got, word-bad}
-use Rattle.terms.specs.Answers.{asWord}
+use Rattle.terms.specs.Vocabulary.Answers.{asWord}
 use Rattle.terms.specs.Parsed.{got, word}
 use borrow.Author.Needs.{needs}
 use denote.Ref.{now}

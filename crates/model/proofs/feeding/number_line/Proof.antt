@@ -1,13 +1,13 @@
 -- `model::feeding::number_line` meets its contract. Assumes nothing.
 use Rattle.model.proofs.NumberFed.{number-told, number-untold, lines-left, number-fed, number-refused}
 use Rattle.model.proofs.ReadBounds.{number-range}
-use Rattle.model.specs.Automaton.{asFed}
-use Rattle.model.specs.Counts.{lowest, highest}
+use Rattle.model.specs.Vocabulary.Automaton.{asFed}
+use Rattle.model.specs.Vocabulary.Counts.{lowest, highest}
 use Rattle.model.specs.declared.Fed.the-variants as Fed
 use Rattle.model.specs.Numbers.{numberIn}
 use denote.Ref.{now}
 use mathlib.Core.Option.{none, some}
-use Rattle.model.specs.Filling.{filledBy}
+use Rattle.model.specs.Vocabulary.Filling.{filledBy}
 use borrow.Author.Needs.{needs}
 use mathlib.Core.Path.{_≡_, refl, sym, ap, _∙_}
 use Rattle.model.proofs.feeding.number_line.Statement.{statement}

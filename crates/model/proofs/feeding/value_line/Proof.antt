@@ -2,8 +2,8 @@
 use Prim.Native.Nat.{_≤_, _<_}
 use Rattle.model.proofs.LineTells.{held-few, asked-same, number-tells, code-valued, nothing-valued}
 use Rattle.model.proofs.LinesHeld.{code-asked}
-use Rattle.model.specs.Automaton.{State, counted}
-use Rattle.model.specs.Keys.{asked}
+use Rattle.model.specs.Vocabulary.Automaton.{State, countsOf}
+use Rattle.model.specs.Vocabulary.Keys.{asked}
 use Rattle.model.specs.declared.Asked.the-variants as Asked
 use borrow.Author.Needs.{needs}
 use mathlib.Core.Path.{_≡_, sym, subst, _∙_}
@@ -11,10 +11,10 @@ use Rattle.model.proofs.feeding.value_line.Statement.{statement}
 use Rattle.model.proofs.feeding.value_line.Tie as tie
 
 -- what the key asks for
-number : (c : tie.After-enum-told) (st : State) → c .before .before .before .before .before .args .counts ≡ counted st → asked (st .key) ≡ Asked.Number
+number : (c : tie.After-enum-told) (st : State) → c .before .before .before .before .before .args .counts ≡ countsOf st → asked (st .key) ≡ Asked.Number
 number c st e = asked-same _ st _ e (sym (c .before .before .asked .ensures) ∙ c .enum-told .given .1)
 
-code : (c : tie.After-enum-told2) (st : State) → c .before .before .before .before .before .args .counts ≡ counted st → asked (st .key) ≡ Asked.Code
+code : (c : tie.After-enum-told2) (st : State) → c .before .before .before .before .before .args .counts ≡ countsOf st → asked (st .key) ≡ Asked.Code
 code c st e = asked-same _ st _ e (sym (c .before .before .asked .ensures) ∙ c .enum-told2 .given .1)
 
 asked-requires : tie.Need-asked-requires

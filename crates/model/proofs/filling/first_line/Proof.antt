@@ -1,5 +1,5 @@
 -- `model::filling::first_line` meets its contract. Assumes nothing.
-use Rattle.model.specs.Filling.{firstLine}
+use Rattle.model.specs.Vocabulary.Filling.{firstLine}
 use borrow.Author.Needs.{needs}
 use mathlib.Core.Path.{refl}
 use Rattle.model.proofs.filling.first_line.Statement.{statement}

@@ -1,7 +1,7 @@
 -- `model::filling::new_number` meets its contract. Assumes nothing.
 use Prim.Native.Nat.{_<_}
 use Rattle.code.proofs.Told.{nothing-told, is-told}
-use Rattle.model.specs.Creations.{newNumber}
+use Rattle.model.specs.Vocabulary.Creations.{newNumber}
 use borrow.Author.Needs.{needs}
 use mathlib.Core.Path.{sym, ap, _∙_}
 use Rattle.model.proofs.filling.new_number.Statement.{statement}

@@ -1,7 +1,7 @@
 -- `model::filling::put_code` meets its contract. Assumes nothing.
 use Prim.Native.Nat.{_+_}
-use Rattle.model.specs.Filling.{thisLine, codePut}
-use Rattle.model.specs.Table.{put, codeRow}
+use Rattle.model.specs.Vocabulary.Filling.{thisLine, codePut}
+use Rattle.model.specs.Vocabulary.Table.{put, codeRow}
 use borrow.Author.Needs.{needs}
 use denote.Ref.{now}
 use mathlib.Core.Path.{ap, _∙_}

@@ -1,6 +1,6 @@
 -- `model::filling::put_method` meets its contract. Assumes nothing.
 use Rattle.model.proofs.Puts.{method-whole, method-open}
-use Rattle.model.specs.Table.{put, methodRow}
+use Rattle.model.specs.Vocabulary.Table.{put, methodRow}
 use borrow.Author.Needs.{needs}
 use denote.Ref.{now}
 use mathlib.Core.Path.{sym, ap, _∙_}

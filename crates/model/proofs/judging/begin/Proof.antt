@@ -1,12 +1,12 @@
 -- `model::judging::begin` meets its contract. Assumes nothing.
-use Rattle.code.specs.OpenBlocks.{packed}
-use Rattle.model.specs.Automaton.{modelCounted, classCounted, methodCounted, counted, freshModel, freshClass, freshMethod, begin}
+use Rattle.code.specs.Vocabulary.OpenBlocks.{packedBlocks}
+use Rattle.model.specs.Vocabulary.Automaton.{modelCounted, classCounted, methodCounted, countsOf, freshModel, freshClass, freshMethod, begin}
 use mathlib.Core.Path.{refl}
 use Rattle.model.proofs.judging.begin.Statement.{statement}
 use Rattle.model.proofs.judging.begin.Tie as tie
 
 returns : tie.Need-returns
-unfolding counted begin modelCounted classCounted methodCounted freshModel freshClass freshMethod packed
+unfolding countsOf begin modelCounted classCounted methodCounted freshModel freshClass freshMethod packedBlocks
 returns c = refl
 
 pub begin-spec : {M : Type 1} → statement M

@@ -3,10 +3,10 @@ use Prim.Native.Nat.{_≤_}
 use Rattle.model.proofs.CountsOfNew.{verdict-refusal}
 use Rattle.model.proofs.LineTells.{asked-same}
 use Rattle.model.proofs.Verdicts.{end-number, end-code, end-whole, end-classes, end-lines, end-news, end-told}
-use Rattle.model.specs.Automaton.{State, counted, modelCounted}
-use Rattle.model.specs.Creations.{creationsIn}
+use Rattle.model.specs.Vocabulary.Automaton.{State, countsOf, modelCounted}
+use Rattle.model.specs.Vocabulary.Creations.{creationsIn}
 use Rattle.model.specs.Judge.{countsJudged, verdictOf}
-use Rattle.model.specs.Keys.{asked}
+use Rattle.model.specs.Vocabulary.Keys.{asked}
 use Rattle.model.specs.declared.Asked.the-variants as Asked
 use borrow.Author.Needs.{needs}
 use denote.Ref.{now}
@@ -15,7 +15,7 @@ use Rattle.model.proofs.judging.ended.Statement.{statement}
 use Rattle.model.proofs.judging.ended.Tie as tie
 
 -- nothing is missing
-nothing : (c : tie.After-enum-told3) (st : State) → c .before .before .before .before .args .counts ≡ counted st → asked (st .key) ≡ Asked.Nothing
+nothing : (c : tie.After-enum-told3) (st : State) → c .before .before .before .before .args .counts ≡ countsOf st → asked (st .key) ≡ Asked.Nothing
 nothing c st e = asked-same _ st _ e (sym (c .before .before .asked .ensures) ∙ c .enum-told3 .given .1)
 
 asked-requires : tie.Need-asked-requires
@@ -52,7 +52,7 @@ returns-2 c = λ s st t.
     sym (ap verdictOf (end-code _ st a) ∙ verdict-refusal _ _)
 
 returns-3 : tie.Need-returns-3
-unfolding counted modelCounted
+unfolding countsOf modelCounted
 returns-3 c = λ s st t.
     let n = nothing (c .before) st (t .0) in
     let classes = end-classes s _ st (t .1) n ∙ sym (ap (λ k. k .model .classes) (t .0)) in

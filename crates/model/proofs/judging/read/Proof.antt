@@ -10,8 +10,8 @@ use Rattle.model.proofs.Cutting.{line-none}
 use Rattle.model.proofs.Keeping.{begin-held}
 use Rattle.model.proofs.Verdicts.{refused-fed, next-fed, held-after, judged-long, judged-short, lines-refused, lines-fed, feed-broken, lines-ended, judge-verdict, told-refusal, end-belongs}
 use Rattle.model.proofs.SoundEnds.{SoundLine, sound-found, broken-found}
-use Rattle.model.specs.Automaton.{State, begin}
-use Rattle.model.specs.Filling.{Tells}
+use Rattle.model.specs.Vocabulary.Automaton.{State, begin}
+use Rattle.model.specs.Vocabulary.Filling.{Tells}
 use Rattle.model.specs.Judge.{linesJudged, judged, verdictOf}
 use Rattle.model.specs.Lines.{lines}
 use Rattle.model.proofs.judging.read.Statement.{statement}

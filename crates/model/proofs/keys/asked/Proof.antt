@@ -1,7 +1,7 @@
 -- `model::keys::asked` meets its contract. Assumes nothing.
 use borrow.Author.Needs.{needs}
 use mathlib.Core.Path.{_≡_, sym, ap}
-use Rattle.model.specs.Keys.{asked}
+use Rattle.model.specs.Vocabulary.Keys.{asked}
 use Rattle.model.specs.declared.Key.the-variants as Key
 use Rattle.model.specs.declared.Key.{Key}
 use Rattle.model.proofs.keys.asked.Statement.{statement}

@@ -1,10 +1,10 @@
 -- `model::keys::key_end` meets its contract. Assumes nothing.
 use borrow.Author.Needs.{needs}
 use mathlib.Core.Path.{_≡_, sym, ap, _∙_}
-use Rattle.model.specs.Keys.{nameOf}
+use Rattle.model.specs.Vocabulary.Keys.{nameOf}
 use Rattle.model.specs.declared.Key.the-variants as Key
 use Rattle.model.specs.declared.Key.{Key}
-use Rattle.terms.specs.Answers.{asWord}
+use Rattle.terms.specs.Vocabulary.Answers.{asWord}
 use Rattle.terms.specs.Bytes.{Text}
 use Rattle.terms.specs.Parsed.{word}
 use Rattle.model.proofs.keys.key_end.Statement.{statement}

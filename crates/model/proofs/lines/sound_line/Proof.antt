@@ -7,7 +7,8 @@ use native.Mathlib.Omega.{arith}
 use borrow.Author.Needs.{needs}
 use borrow.Author.Tests.{not-true, not-false}
 use Rattle.model.proofs.SoundEnds.{endFrom, end-here, end-outside, end-onward, end-stopped, end-from-plain}
-use Rattle.model.specs.Lines.{lines, soundEnd}
+use Rattle.model.specs.Lines.{lines}
+use Rattle.model.specs.Vocabulary.LineEnds.{soundEnd}
 use Rattle.model.proofs.lines.sound_line.Statement.{statement}
 use Rattle.model.proofs.lines.sound_line.Tie as tie
 

@@ -3,7 +3,7 @@ use borrow.Author.Needs.{needs}
 use mathlib.Core.Path.{_≡_, sym, ap, _∙_}
 use native.Mathlib.Omega.{arith}
 use Rattle.model.proofs.NumberLines.{number-none, number-longer, number-below, number-within}
-use Rattle.model.specs.Numbers.{asNumberLine}
+use Rattle.model.specs.Vocabulary.NumberLines.{asNumberLine}
 use Rattle.terms.proofs.Answers.{number-got, number-bad}
 use Rattle.terms.specs.Leaves.{decimal}
 use Rattle.terms.specs.Parsed.{got}

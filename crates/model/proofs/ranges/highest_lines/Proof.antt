@@ -1,6 +1,6 @@
 -- `model::ranges::highest_lines` meets its contract. Assumes nothing.
 use native.Mathlib.Omega.{arith}
-use Rattle.model.specs.Counts.{highestLines}
+use Rattle.model.specs.Vocabulary.Counts.{highestLines}
 use Rattle.model.proofs.ranges.highest_lines.Statement.{statement}
 use Rattle.model.proofs.ranges.highest_lines.Tie as tie
 

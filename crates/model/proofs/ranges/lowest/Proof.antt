@@ -1,7 +1,7 @@
 -- `model::ranges::lowest` meets its contract. Assumes nothing.
 use borrow.Author.Needs.{needs}
 use mathlib.Core.Path.{_≡_, sym, ap, _∙_}
-use Rattle.model.specs.Counts.{lowest}
+use Rattle.model.specs.Vocabulary.Counts.{lowest}
 use Rattle.model.specs.declared.Counts.{Counts}
 use Rattle.model.specs.declared.Key.the-variants as Key
 use Rattle.model.specs.declared.Key.{Key}

@@ -3,7 +3,7 @@ use borrow.Author.Needs.{needs}
 use lib.ListN.{length-set}
 use mathlib.Core.Path.{refl}
 use native.Mathlib.Omega.{arith}
-use Rattle.model.specs.Table.{put}
+use Rattle.model.specs.Vocabulary.Table.{put}
 use Rattle.model.proofs.table.put.Statement.{statement}
 use Rattle.model.proofs.table.put.Tie as tie
 

@@ -1,7 +1,7 @@
 -- `model::table::row` meets its contract. Assumes nothing.
 use borrow.Author.Needs.{needs}
 use mathlib.Core.Path.{refl}
-use Rattle.model.specs.Table.{rowOf}
+use Rattle.model.specs.Vocabulary.Table.{rowAt}
 use Rattle.model.proofs.table.row.Statement.{statement}
 use Rattle.model.proofs.table.row.Tie as tie
 
@@ -42,7 +42,7 @@ shared-slice-read-t18 : tie.Need-shared-slice-read-t18
 shared-slice-read-t18 c = search needs
 
 returns : tie.Need-returns
-unfolding rowOf
+unfolding rowAt
 returns c = refl
 
 pub row-spec : {M : Type 1} → statement M

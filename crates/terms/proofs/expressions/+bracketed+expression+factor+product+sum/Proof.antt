@@ -43,11 +43,11 @@ use Rattle.terms.proofs.expressions.variable.Reads as variable-reads
 use Rattle.terms.proofs.leaves.byte_at.Reads as byte-at-reads
 use Rattle.terms.proofs.values.caller.Reads as caller-reads
 use Rattle.terms.proofs.values.itself.Reads as itself-reads
-use Rattle.terms.specs.Answers.{asValue, noOther, surroundings}
+use Rattle.terms.specs.Vocabulary.Answers.{asValue, noOther, surroundings}
 use Rattle.terms.specs.Bytes.{bytes, byteAt}
 use Rattle.terms.specs.Expressions.{star as starOf, sign as signOf, comparison as comparisonOf, factorBy, product as productOf, sum as sumOf, comparing}
 use Rattle.terms.specs.Parsed.{mapped, word}
-use Rattle.terms.specs.Readers.{factorRead, productRead, sumRead, expressionRead}
+use Rattle.terms.specs.Vocabulary.Readers.{factorRead, productRead, sumRead, expressionRead}
 use Rattle.whole.specs.declared.Operator.the-variants.{Times}
 
 abbrev μ-bracketed : Measures 2 bracketed-kinds.ps ℕ

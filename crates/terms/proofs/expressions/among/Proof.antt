@@ -1,7 +1,7 @@
 -- `terms::expressions::among` meets its contract. Assumes nothing.
 use mathlib.Core.Path.{sym, ap}
 use Rattle.terms.proofs.Starts.{among-first, among-second, among-none}
-use Rattle.terms.specs.Answers.{asOperator}
+use Rattle.terms.specs.Vocabulary.Answers.{asOperator}
 use Rattle.terms.proofs.expressions.among.Statement.{statement}
 use Rattle.terms.proofs.expressions.among.Tie as tie
 

@@ -1,7 +1,7 @@
 -- `terms::expressions::comparison_after` meets its contract. Assumes nothing.
 use borrow.Author.Needs.{needs}
 use mathlib.Core.Path.{sym, ap, _∙_}
-use Rattle.terms.specs.Answers.{asOperator, noOther}
+use Rattle.terms.specs.Vocabulary.Answers.{asOperator, noOther}
 use Rattle.terms.specs.Bytes.{byteAt}
 use Rattle.terms.specs.Expressions.{comparison}
 use Rattle.terms.proofs.expressions.comparison_after.Statement.{statement}

@@ -1,7 +1,7 @@
 -- `terms::expressions::comparison_at` meets its contract. Assumes nothing.
 use borrow.Author.Needs.{needs}
 use mathlib.Core.Path.{ap, _∙_}
-use Rattle.terms.specs.Answers.{asOperator}
+use Rattle.terms.specs.Vocabulary.Answers.{asOperator}
 use Rattle.terms.specs.Expressions.{comparison}
 use Rattle.terms.proofs.expressions.comparison_at.Statement.{statement}
 use Rattle.terms.proofs.expressions.comparison_at.Tie as tie

@@ -1,7 +1,7 @@
 -- `terms::expressions::grouped` meets its contract. Assumes nothing.
 use borrow.Author.Needs.{needs}
 use mathlib.Core.Path.{sym, ap, _∙_}
-use Rattle.terms.specs.Answers.{groupedBy}
+use Rattle.terms.specs.Vocabulary.Answers.{groupedBy}
 use Rattle.terms.proofs.expressions.grouped.Statement.{statement}
 use Rattle.terms.proofs.expressions.grouped.Tie as tie
 

@@ -41,11 +41,11 @@ use Rattle.terms.proofs.guards.test.Reads as test-reads
 use Rattle.terms.proofs.leaves.byte_at.Reads as byte-at-reads
 use Rattle.terms.proofs.values.joined.Reads as joined-reads
 use Rattle.terms.proofs.values.waited.Reads as waited-reads
-use Rattle.terms.specs.Answers.{asValue}
+use Rattle.terms.specs.Vocabulary.Answers.{asValue}
 use Rattle.terms.specs.Bytes.{bytes, byteAt}
 use Rattle.terms.specs.Guards.{ampersand, bar, atomBy, conjunction as conjunctionOf, disjunction}
 use Rattle.terms.specs.Parsed.{mapped, word}
-use Rattle.terms.specs.Readers.{conjoinedRead, disjoinedRead}
+use Rattle.terms.specs.Vocabulary.Readers.{conjoinedRead, disjoinedRead}
 use Rattle.terms.specs.Values.{joined}
 use Rattle.terms.specs.declared.Junction.the-variants.{Both, Either}
 

@@ -4,7 +4,7 @@ use mathlib.Core.Option.{some}
 use mathlib.Core.Path.{_≡_, sym, ap, _∙_}
 use native.Mathlib.Omega.{arith}
 use Rattle.terms.proofs.Digits.{digit-within, decimal-none, decimal-past, decimal-zero, decimal-more}
-use Rattle.terms.specs.Answers.{asNumber}
+use Rattle.terms.specs.Vocabulary.Answers.{asNumber}
 use Rattle.terms.specs.Bytes.{byteAt, digit}
 use Rattle.whole.proofs.Ranges.{natural-some, natural-none}
 use Rattle.terms.proofs.leaves.decimal.Statement.{statement}

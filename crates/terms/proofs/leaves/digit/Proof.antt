@@ -2,7 +2,7 @@
 use borrow.Author.Needs.{needs}
 use mathlib.Core.Path.{sym, ap}
 use Rattle.terms.proofs.Bytes.{below-digits, above-digits, among-digits}
-use Rattle.whole.specs.Whole.{asNatural}
+use Rattle.whole.specs.Vocabulary.Naturals.{asNatural}
 use Rattle.terms.proofs.leaves.digit.Statement.{statement}
 use Rattle.terms.proofs.leaves.digit.Tie as tie
 

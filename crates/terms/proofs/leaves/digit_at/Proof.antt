@@ -2,7 +2,7 @@
 use borrow.Author.Needs.{needs}
 use mathlib.Core.Path.{ap, _∙_}
 use Rattle.terms.specs.Bytes.{digit as digitOf}
-use Rattle.whole.specs.Whole.{asNatural}
+use Rattle.whole.specs.Vocabulary.Naturals.{asNatural}
 use Rattle.terms.proofs.leaves.digit_at.Statement.{statement}
 use Rattle.terms.proofs.leaves.digit_at.Tie as tie
 

@@ -8,7 +8,7 @@ use mathlib.Core.Path.{_≡_, refl, sym, ap, _∙_}
 use native.Mathlib.Omega.{arith}
 use Rattle.terms.proofs.Bytes.{digit-is}
 use Rattle.terms.proofs.Digits.{digit-within, digits-none, digits-more, digits-past}
-use Rattle.terms.specs.Answers.{asNumber}
+use Rattle.terms.specs.Vocabulary.Answers.{asNumber}
 use Rattle.terms.specs.Bytes.{byteAt, digit}
 use Rattle.terms.specs.Leaves.{counting}
 use Rattle.terms.specs.Parsed.{repeated}

@@ -6,7 +6,7 @@ use mathlib.Core.Path.{_≡_, refl, sym, ap, _∙_}
 use native.Mathlib.Omega.{arith}
 use Rattle.terms.proofs.Bytes.{digit-is}
 use Rattle.terms.proofs.Variables.{numbered-never, numbered-none, numbered-past, numbered-some}
-use Rattle.terms.specs.Answers.{asNumber}
+use Rattle.terms.specs.Vocabulary.Answers.{asNumber}
 use Rattle.terms.specs.Bytes.{byteAt, digit}
 use Rattle.whole.proofs.Ranges.{natural-some, natural-none}
 use Rattle.terms.proofs.leaves.numbered.Statement.{statement}

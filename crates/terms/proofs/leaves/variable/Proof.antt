@@ -5,7 +5,7 @@ use native.Mathlib.Omega.{arith}
 use Rattle.terms.proofs.Answers.{number-got, number-bad}
 use Rattle.terms.proofs.Moving.{within-text}
 use Rattle.terms.proofs.Variables.{numbered-digit, variable-a, variable-v, variable-none}
-use Rattle.terms.specs.Answers.{asVariable}
+use Rattle.terms.specs.Vocabulary.Answers.{asVariable}
 use Rattle.terms.specs.Bytes.{byteAt}
 use Rattle.terms.specs.Parsed.{mapped}
 use Rattle.terms.specs.declared.Variable.the-variants.{Attribute, Local}

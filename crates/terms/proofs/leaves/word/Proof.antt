@@ -6,7 +6,7 @@ use lib.ListN.{length, drop}
 use mathlib.Core.Path.{_≡_, sym, ap, _∙_}
 use native.Mathlib.Nat.{add-zero, add-assoc}
 use native.Mathlib.Omega.{arith}
-use Rattle.terms.specs.Answers.{asWord}
+use Rattle.terms.specs.Vocabulary.Answers.{asWord}
 use Rattle.terms.specs.Parsed.{word}
 use Rattle.terms.proofs.Moving.{rest-yes, rest-no, rest-none}
 use Rattle.terms.proofs.leaves.word.Statement.{statement}

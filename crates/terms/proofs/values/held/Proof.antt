@@ -1,7 +1,7 @@
 -- `terms::values::held` meets its contract. Assumes nothing.
 use borrow.Author.Needs.{needs}
 use mathlib.Core.Path.{sym, ap, _∙_}
-use Rattle.terms.specs.Answers.{surroundings}
+use Rattle.terms.specs.Vocabulary.Answers.{surroundings}
 use Rattle.terms.specs.Values.{held}
 use Rattle.whole.proofs.Ranges.{handed}
 use Rattle.terms.proofs.values.held.Statement.{statement}

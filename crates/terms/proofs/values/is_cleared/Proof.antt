@@ -2,7 +2,7 @@
 use borrow.Author.Needs.{needs}
 use lib.IntN.{pos}
 use mathlib.Core.Path.{ap, _∙_}
-use Rattle.terms.specs.Answers.{surroundings}
+use Rattle.terms.specs.Vocabulary.Answers.{surroundings}
 use Rattle.terms.specs.Values.{isCleared}
 use Rattle.whole.proofs.Ranges.{handed}
 use Rattle.whole.specs.Whole.{eqZ}

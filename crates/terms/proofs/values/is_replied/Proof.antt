@@ -3,9 +3,9 @@ use borrow.Author.Needs.{needs}
 use denote.Ref.{now}
 use mathlib.Core.Path.{_≡_, refl, sym, ap, _∙_}
 use Rattle.layout.proofs.Numbers.{label-some, label-none}
-use Rattle.layout.specs.Found.{asLabel}
+use Rattle.layout.specs.Vocabulary.Found.{asLabel}
 use Rattle.layout.specs.Stages.{replyFor}
-use Rattle.terms.specs.Answers.{surroundings}
+use Rattle.terms.specs.Vocabulary.Answers.{surroundings}
 use Rattle.terms.specs.Values.{held, isReplied}
 use Rattle.whole.proofs.Ranges.{handed}
 use Rattle.terms.proofs.values.is_replied.Statement.{statement}

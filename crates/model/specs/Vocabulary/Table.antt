@@ -26,12 +26,12 @@ abbrev pub rows : ℕ
 rows = 656
 
 -- the numbers of all rows
-abbrev pub size : ℕ
-size = 2624
+abbrev pub tableSize : ℕ
+tableSize = 2624
 
 -- the four numbers of a row; a number that is not there reads as 0
-unfoldable pub rowOf : Table → ℕ → Row
-rowOf t r = record { 0 = getD t (r * width) 0; 1 = getD t (r * width + 1) 0; 2 = getD t (r * width + 2) 0; 3 = getD t (r * width + 3) 0 }
+unfoldable pub rowAt : Table → ℕ → Row
+rowAt t r = record { 0 = getD t (r * width) 0; 1 = getD t (r * width + 1) 0; 2 = getD t (r * width + 2) 0; 3 = getD t (r * width + 3) 0 }
 
 unfoldable pub put : Table → ℕ → Row → Table
 put t r x =

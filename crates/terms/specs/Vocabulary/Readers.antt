@@ -5,7 +5,7 @@ use lib.ListN.{length}
 use Rattle.whole.specs.declared.Worked.{Worked}
 use Rattle.layout.specs.Layout.{Cells}
 use Rattle.terms.specs.declared.Around.{Around}
-use Rattle.terms.specs.Answers.{surroundings}
+use Rattle.terms.specs.Vocabulary.Answers.{surroundings}
 use Rattle.terms.specs.Bytes.{Text}
 use Rattle.terms.specs.Expressions.{factor, product, sum, expression}
 use Rattle.terms.specs.Guards.{ampersand, bar, atom, conjunction, guard}

@@ -8,20 +8,6 @@ use Rattle.code.specs.declared.Statement as Declared
 use Rattle.code.specs.declared.Statement.the-variants as Said
 use Rattle.code.specs.Statements.{Statement, skip, set, new, call, get, await, if, else, fi, while, od, return}
 
-unfoldable pub newOf : {A G : Type 0} → Statement A G → Option (ℕ × ℕ)
-newOf skip = none
-newOf (set x a) = none
-newOf (new x k es) = some (k, length es)
-newOf (call x a j es) = none
-newOf (get x y) = none
-newOf (await g) = none
-newOf (if a) = none
-newOf else = none
-newOf fi = none
-newOf (while a) = none
-newOf od = none
-newOf (return a) = none
-
 -- the same of a statement beside which so many arguments stand
 unfoldable pub newSaid : Declared.Statement → ℕ → Option (ℕ × ℕ)
 newSaid Said.Skip n = none

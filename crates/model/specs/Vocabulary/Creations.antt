@@ -4,11 +4,11 @@ use mathlib.Core.Bool.{Bool, true}
 use mathlib.Core.List.{List, [], _∷_, _++_}
 use mathlib.Core.Option.{Option, none, some}
 use lib.Dec.{eqb}
-use Rattle.model.specs.Automaton.{Creation}
-use Rattle.model.specs.Counts.{mostClasses}
+use Rattle.model.specs.Vocabulary.Automaton.{Creation}
+use Rattle.model.specs.Bounds.{mostClasses}
 use Rattle.model.specs.Judge.{givenTo}
 use Rattle.model.specs.Model.{Model}
-use Rattle.model.specs.Table.{Table, rowOf, codeRow}
+use Rattle.model.specs.Vocabulary.Table.{Table, rowAt, codeRow}
 
 -- a `new` as one number, of its class and of how many arguments there are; 0 for a line that is none
 unfoldable pub newNumber : Option (ℕ × ℕ) → ℕ
@@ -23,7 +23,7 @@ creationTold at (suc n) = record { at = at; class = n % mostClasses; count = n /
 -- and the creations that code rows tell, so many from one on
 unfoldable pub creationsFrom : Table → ℕ → ℕ → List Creation
 creationsFrom t i zero = []
-creationsFrom t i (suc n) = let r = rowOf t (codeRow i) in creationTold (r .2) (r .3) ++ creationsFrom t (suc i) n
+creationsFrom t i (suc n) = let r = rowAt t (codeRow i) in creationTold (r .2) (r .3) ++ creationsFrom t (suc i) n
 
 -- those of the first rows
 abbrev pub creationsIn : Table → ℕ → List Creation

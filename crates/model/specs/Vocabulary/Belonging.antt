@@ -9,9 +9,9 @@ use Rattle.terms.specs.Trees.{trees, guardTrees}
 use Rattle.code.specs.Reader.{statement}
 use Rattle.code.specs.Statements.{Code}
 use Rattle.model.specs.declared.Row.{Row}
-use Rattle.model.specs.Counts.{allLines, mostMethods}
+use Rattle.model.specs.Bounds.{allLines, mostMethods}
 use Rattle.model.specs.Model.{Method, Class, Model}
-use Rattle.model.specs.Table.{Table, rowOf, classRow, methodRow, codeRow, Rows}
+use Rattle.model.specs.Vocabulary.Table.{Table, rowAt, classRow, methodRow, codeRow, Rows}
 
 -- the bytes of a code value, by its row: the place where it begins in the text, and its length
 unfoldable pub valueIn : Text → Row → Text
@@ -22,7 +22,7 @@ module _ (s : Text) (classes : ℕ) (t : Table) where
   -- a code line: what its row leads to in the text is this statement
   unfoldable pub CodeTold : Limits → ℕ → Code → Type 0
   CodeTold lim i c =
-      let r = rowOf t (codeRow i) in
+      let r = rowAt t (codeRow i) in
       (r .0 + r .1 ≤ length s) × (statement trees guardTrees lim classes (valueIn s r) ≡ got (r .1) c)
 
 -- the same, and how many code lines the table tells
@@ -30,14 +30,14 @@ module _ (s : Text) (classes : ℕ) (t : Table) (filled : ℕ) where
   -- a method: its counts, and the number of its first code line
   unfoldable pub MethodTold : ℕ → ℕ → ℕ → Method → Type 0
   MethodTold attrs k j m =
-      let r = rowOf t (methodRow k j) in
+      let r = rowAt t (methodRow k j) in
       (r .0 ≡ m .params) × (r .1 ≡ m .locals) × (r .2 ≡ length (m .code)) × (r .3 + length (m .code) ≤ filled)
       × Rows (CodeTold s classes t (record { attrs = attrs; locals = m .locals })) (r .3) (m .code)
 
   -- a class: its counts, and its methods
   unfoldable pub ClassTold : ℕ → Class → Type 0
   ClassTold k c =
-      let r = rowOf t (classRow k) in
+      let r = rowAt t (classRow k) in
       (r .0 ≡ c .attrs) × (r .1 ≡ c .given) × (r .2 ≡ c .run) × (r .3 ≡ length (c .methods)) × (length (c .methods) ≤ mostMethods)
       × Rows (MethodTold (c .attrs) k) 0 (c .methods)
 

@@ -11,10 +11,10 @@ use Rattle.terms.specs.Bytes.{Text}
 use Rattle.terms.specs.declared.Limits.{Limits}
 use Rattle.terms.specs.Parsed.{got, bad, word}
 use Rattle.terms.specs.Trees.{trees, guardTrees}
-use Rattle.code.specs.Creating.{newOf}
+use Rattle.code.specs.Statements.{newOf}
 use Rattle.code.specs.Statements.{Code}
 use Rattle.code.specs.Blocks.{Block, shapeOf, through}
-use Rattle.code.specs.OpenBlocks.{packed}
+use Rattle.code.specs.Vocabulary.OpenBlocks.{packedBlocks}
 use Rattle.code.specs.Reader.{statement}
 use Rattle.model.specs.declared.Asked.{Asked}
 use Rattle.model.specs.declared.Asked.the-variants as Asked
@@ -25,9 +25,9 @@ use Rattle.model.specs.declared.Key.{Key}
 use Rattle.model.specs.declared.Key.the-variants as Key
 use Rattle.model.specs.declared.MethodCounts.{MethodCounts}
 use Rattle.model.specs.declared.ModelCounts.{ModelCounts}
-use Rattle.model.specs.Counts.{lowest, highest, isLast, mayStand}
+use Rattle.model.specs.Vocabulary.Counts.{lowest, highest, isLast, mayStand}
 use Rattle.model.specs.Lines.{Line, sound, content}
-use Rattle.model.specs.Keys.{nameOf, asked}
+use Rattle.model.specs.Vocabulary.Keys.{nameOf, asked}
 use Rattle.model.specs.Model.{Method, Class}
 use Rattle.model.specs.Numbers.{numberIn}
 
@@ -78,14 +78,14 @@ unfoldable pub begin : State
 begin = record { key = Key.Creol; model = freshModel; class = freshClass; method = freshMethod }
 
 -- a state with one of its parts put anew, and the key that comes next
-unfoldable pub withModel : State → Key → InModel → State
-withModel st k m = record { key = k; model = m; class = st .class; method = st .method }
+unfoldable pub modelAnew : State → Key → InModel → State
+modelAnew st k m = record { key = k; model = m; class = st .class; method = st .method }
 
-unfoldable pub withClass : State → Key → InClass → State
-withClass st k c = record { key = k; model = st .model; class = c; method = st .method }
+unfoldable pub classAnew : State → Key → InClass → State
+classAnew st k c = record { key = k; model = st .model; class = c; method = st .method }
 
-unfoldable pub withMethod : State → Key → InMethod → State
-withMethod st k m = record { key = k; model = st .model; class = st .class; method = m }
+unfoldable pub methodAnew : State → Key → InMethod → State
+methodAnew st k m = record { key = k; model = st .model; class = st .class; method = m }
 
 -- a state in numbers, as the code holds it
 unfoldable pub modelCounted : InModel → ModelCounts
@@ -95,10 +95,10 @@ unfoldable pub classCounted : InClass → ClassCounts
 classCounted c = record { attrs = c .attrs; given = c .given; run = c .run; methods = c .methods; read = length (c .done) }
 
 unfoldable pub methodCounted : InMethod → MethodCounts
-methodCounted o = record { params = o .params; locals = o .locals; lines = o .lines; read = length (o .done); blocks = packed (o .blocks) }
+methodCounted o = record { params = o .params; locals = o .locals; lines = o .lines; read = length (o .done); blocks = packedBlocks (o .blocks) }
 
-unfoldable pub counted : State → Counts
-counted st = record {
+unfoldable pub countsOf : State → Counts
+countsOf st = record {
   key = st .key;
   model = modelCounted (st .model);
   class = classCounted (st .class);
@@ -107,7 +107,7 @@ counted st = record {
 
 -- the code's counts follow a change of the state: whatever state they are of, they are of the changed one afterwards
 abbrev pub Follows : (State → State) → Counts → Counts → Type 0
-Follows change before after = (st : State) → before ≡ counted st → after ≡ counted (change st)
+Follows change before after = (st : State) → before ≡ countsOf st → after ≡ countsOf (change st)
 
 -- the class being read joins the model
 unfoldable pub classJoined : State → InModel
@@ -120,14 +120,14 @@ classJoined st =
 -- the class being read is whole: the next class comes, or the end
 unfoldable pub classClosed : State → State
 classClosed st = elim (ltb (length (classJoined st .done)) (st .model .classes)) [
-  | true ↦ withModel st Key.Class (classJoined st)
-  | false ↦ withModel st Key.End (classJoined st)
+  | true ↦ modelAnew st Key.Class (classJoined st)
+  | false ↦ modelAnew st Key.End (classJoined st)
 ]
 
 -- after `methods=` and after each method: the next method comes, or the class is whole
 unfoldable pub nextMethod : State → State
 nextMethod st = elim (ltb (length (st .class .done)) (st .class .methods)) [
-  | true ↦ withClass st Key.Method (st .class)
+  | true ↦ classAnew st Key.Method (st .class)
   | false ↦ classClosed st
 ]
 
@@ -141,7 +141,7 @@ methodJoined st =
 
 -- the method being read is whole
 unfoldable pub methodClosed : State → State
-methodClosed st = nextMethod (withClass st Key.Method (methodJoined st))
+methodClosed st = nextMethod (classAnew st Key.Method (methodJoined st))
 
 -- so many methods are to come
 unfoldable pub methodsBegun : State → ℕ → InClass
@@ -161,32 +161,32 @@ linesBegun st n =
     record { params = o .params; locals = o .locals; lines = n; blocks = []; done = [] }
 
 -- what a number makes of the state: it takes its place, and `methods=` and `lines=` begin a list
-unfoldable pub numbered : Key → State → ℕ → State
-numbered Key.Creol st n = withModel st Key.Classes (st .model)
-numbered Key.Classes st n =
+unfoldable pub numberFed : Key → State → ℕ → State
+numberFed Key.Creol st n = modelAnew st Key.Classes (st .model)
+numberFed Key.Classes st n =
     let m = st .model in
-    withModel st Key.Class (record { classes = n; total = m .total; creations = m .creations; done = m .done })
-numbered Key.Class st n = withClass st Key.Attrs (st .class)
-numbered Key.Attrs st n =
+    modelAnew st Key.Class (record { classes = n; total = m .total; creations = m .creations; done = m .done })
+numberFed Key.Class st n = classAnew st Key.Attrs (st .class)
+numberFed Key.Attrs st n =
     let c = st .class in
-    withClass st Key.Given (record { attrs = n; given = c .given; run = c .run; methods = c .methods; done = c .done })
-numbered Key.Given st n =
+    classAnew st Key.Given (record { attrs = n; given = c .given; run = c .run; methods = c .methods; done = c .done })
+numberFed Key.Given st n =
     let c = st .class in
-    withClass st Key.Run (record { attrs = c .attrs; given = n; run = c .run; methods = c .methods; done = c .done })
-numbered Key.Run st n =
+    classAnew st Key.Run (record { attrs = c .attrs; given = n; run = c .run; methods = c .methods; done = c .done })
+numberFed Key.Run st n =
     let c = st .class in
-    withClass st Key.Methods (record { attrs = c .attrs; given = c .given; run = n; methods = c .methods; done = c .done })
-numbered Key.Methods st n = nextMethod (withClass st Key.Method (methodsBegun st n))
-numbered Key.Method st n = withMethod st Key.Params (st .method)
-numbered Key.Params st n =
+    classAnew st Key.Methods (record { attrs = c .attrs; given = c .given; run = n; methods = c .methods; done = c .done })
+numberFed Key.Methods st n = nextMethod (classAnew st Key.Method (methodsBegun st n))
+numberFed Key.Method st n = methodAnew st Key.Params (st .method)
+numberFed Key.Params st n =
     let o = st .method in
-    withMethod st Key.Locals (record { params = n; locals = o .locals; lines = o .lines; blocks = o .blocks; done = o .done })
-numbered Key.Locals st n =
+    methodAnew st Key.Locals (record { params = n; locals = o .locals; lines = o .lines; blocks = o .blocks; done = o .done })
+numberFed Key.Locals st n =
     let o = st .method in
-    withMethod st Key.Lines (record { params = o .params; locals = n; lines = o .lines; blocks = o .blocks; done = o .done })
-numbered Key.Lines st n = withMethod (withModel st Key.Code (linesCounted st n)) Key.Code (linesBegun st n)
-numbered Key.Code st n = st
-numbered Key.End st n = st
+    methodAnew st Key.Lines (record { params = o .params; locals = n; lines = o .lines; blocks = o .blocks; done = o .done })
+numberFed Key.Lines st n = methodAnew (modelAnew st Key.Code (linesCounted st n)) Key.Code (linesBegun st n)
+numberFed Key.Code st n = st
+numberFed Key.End st n = st
 
 -- what a line makes of a state: the number of its refusal, or the next state
 pub data Fed : Type 0 where
@@ -195,8 +195,8 @@ pub data Fed : Type 0 where
 
 -- "a number outside code: its form, its range, or the 512"
 unfoldable pub numberLine : State → Text → Fed
-numberLine st value = elim (numberIn (lowest (st .key) (counted st)) (highest (st .key) (counted st)) value) [
-  | some n ↦ fed (numbered (st .key) st n)
+numberLine st value = elim (numberIn (lowest (st .key) (countsOf st)) (highest (st .key) (countsOf st)) value) [
+  | some n ↦ fed (numberFed (st .key) st n)
   | none ↦ refused wrongNumber
 ]
 
@@ -216,11 +216,11 @@ creationsJoined at st c =
     record { classes = m .classes; total = m .total; creations = m .creations ++ creationsOf at c; done = m .done }
 
 unfoldable pub lineJoined : ℕ → State → Code → List Block → State
-lineJoined at st c open-blocks = withMethod (withModel st Key.Code (creationsJoined at st c)) Key.Code (codeJoined st c open-blocks)
+lineJoined at st c open-blocks = methodAnew (modelAnew st Key.Code (creationsJoined at st c)) Key.Code (codeJoined st c open-blocks)
 
 -- what a statement makes of the state
 unfoldable pub stated : ℕ → State → Code → List Block → State
-stated at st c open-blocks = elim (isLast (counted st)) [
+stated at st c open-blocks = elim (isLast (countsOf st)) [
   | true ↦ methodClosed (lineJoined at st c open-blocks)
   | false ↦ lineJoined at st c open-blocks
 ]
@@ -228,7 +228,7 @@ stated at st c open-blocks = elim (isLast (counted st)) [
 unfoldable pub blockLine : ℕ → State → Code → Fed
 blockLine at st c = elim (through (shapeOf c) (st .method .blocks)) [
   | none ↦ refused wrongBlocks
-  | some open-blocks ↦ elim (mayStand (counted st) (shapeOf c) open-blocks) [
+  | some open-blocks ↦ elim (mayStand (countsOf st) (shapeOf c) open-blocks) [
     | true ↦ fed (stated at st c open-blocks)
     | false ↦ refused wrongBlocks
   ]
@@ -262,4 +262,4 @@ feed at st l = elim (sound l) [
 -- the same, as the code gives it
 unfoldable pub asFed : Fed → Declared.Fed
 asFed (refused n) = Declared.the-variants.Refused n
-asFed (fed st) = Declared.the-variants.Next (counted st)
+asFed (fed st) = Declared.the-variants.Next (countsOf st)

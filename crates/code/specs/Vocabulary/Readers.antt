@@ -3,11 +3,11 @@ use Prim.Native.Nat.{ℕ}
 use Rattle.whole.specs.declared.Worked.{Worked}
 use Rattle.layout.specs.Layout.{Cells}
 use Rattle.terms.specs.declared.Around.{Around}
-use Rattle.terms.specs.Answers.{surroundings}
+use Rattle.terms.specs.Vocabulary.Answers.{surroundings}
 use Rattle.terms.specs.Bytes.{Text}
 use Rattle.terms.specs.Parsed.{Parsed, got, bad, next, mapped, ended, repeated, joining}
 use Rattle.terms.specs.Leaves.{decimal}
-use Rattle.terms.specs.Readers.{expressionRead}
+use Rattle.terms.specs.Vocabulary.Readers.{expressionRead}
 use Rattle.terms.specs.Expressions.{brackets}
 use Rattle.terms.specs.Values.{values, guardValues}
 use Rattle.code.specs.declared.Arguments.{Arguments}
@@ -15,7 +15,7 @@ use Rattle.code.specs.declared.Form.{Form}
 use Rattle.terms.specs.declared.Variable.{Variable}
 use Rattle.code.specs.declared.ReadCode.{ReadCode}
 use Rattle.code.specs.declared.Statement as Declared
-use Rattle.code.specs.Answers.{noArguments, withOne, gathered, refusedAt, asCode, finished}
+use Rattle.code.specs.Vocabulary.Answers.{noArguments, withOne, gathered, refusedAt, asCode, finished}
 use Rattle.code.specs.Statements.{call}
 use Rattle.code.specs.Reader.{lastMethod, argumentsAfter, comma, arguments, rest, statement}
 

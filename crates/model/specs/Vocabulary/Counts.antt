@@ -5,6 +5,7 @@ use mathlib.Core.List.{List}
 use lib.Dec.{leb, eqb}
 use lib.ListN.{length}
 use Rattle.layout.specs.Layout as Layout
+use Rattle.model.specs.Bounds.{edition, mostClasses, mostMethods, mostParams, mostLines, allLines, deepest}
 use Rattle.code.specs.declared.Shape.{Shape}
 use Rattle.code.specs.declared.Shape.the-variants as Shape
 use Rattle.code.specs.Blocks.{isShape, Block}
@@ -14,34 +15,6 @@ use Rattle.model.specs.declared.Key.{Key}
 use Rattle.model.specs.declared.Key.the-variants as Key
 use Rattle.model.specs.declared.MethodCounts.{MethodCounts}
 use Rattle.model.specs.declared.ModelCounts.{ModelCounts}
-
--- "`creol=1`"
-abbrev pub edition : ℕ
-edition = 1
-
--- "`classes=` 1..16"
-abbrev pub mostClasses : ℕ
-mostClasses = 16
-
--- "`methods=` run..8"
-abbrev pub mostMethods : ℕ
-mostMethods = 8
-
--- "`params=` 0..4"
-abbrev pub mostParams : ℕ
-mostParams = 4
-
--- "`lines=` 1..64"
-abbrev pub mostLines : ℕ
-mostLines = 64
-
--- "All `lines=` together are at most 512."
-abbrev pub allLines : ℕ
-allLines = 512
-
--- "Blocks nest at most 8 deep."
-abbrev pub deepest : ℕ
-deepest = 8
 
 -- counts with one of their parts put anew, and the key that comes next
 abbrev pub ofModel : Counts → Key → ModelCounts → Counts
@@ -95,13 +68,13 @@ unfoldable pub highest : Key → Counts → ℕ
 highest Key.Creol c = edition
 highest Key.Classes c = mostClasses
 highest Key.Class c = c .model .read
-highest Key.Attrs c = Layout.attributes
+highest Key.Attrs c = Layout.mostAttributes
 highest Key.Given c = highestGiven c
 highest Key.Run c = 1
 highest Key.Methods c = mostMethods
 highest Key.Method c = c .class .read
 highest Key.Params c = highestParams c
-highest Key.Locals c = Layout.locals
+highest Key.Locals c = Layout.mostLocals
 highest Key.Lines c = highestLines c
 highest Key.Code c = 0
 highest Key.End c = 0

@@ -12,16 +12,16 @@ use Rattle.code.specs.declared.Statement.the-variants as Said
 use Rattle.code.specs.Blocks.{Block, rank}
 
 -- the digit of a block
-unfoldable pub digit : Block → ℕ
-digit b = rank b + 1
+unfoldable pub blockDigit : Block → ℕ
+blockDigit b = rank b + 1
 
-unfoldable pub packed : List Block → ℕ
-packed [] = 0
-packed (b ∷ bs) = digit b + 4 * packed bs
+unfoldable pub packedBlocks : List Block → ℕ
+packedBlocks [] = 0
+packedBlocks (b ∷ bs) = blockDigit b + 4 * packedBlocks bs
 
 -- what the code gives for the open blocks after a line
 unfoldable pub asBlocks : Option (List Block) → BlocksAfter
-asBlocks (some bs) = After.Open (packed bs)
+asBlocks (some bs) = After.Open (packedBlocks bs)
 asBlocks none = After.Unmatched
 
 -- what a line is, by what the code read of it

@@ -13,12 +13,13 @@ use Rattle.model.specs.declared.Fed.{Fed}
 use Rattle.model.specs.declared.Fed.the-variants as Fed
 use Rattle.model.specs.declared.Key.{Key}
 use Rattle.model.specs.declared.Key.the-variants as Key
-use Rattle.model.specs.Automaton.{State, limitsOf, counted, refused, fed, asFed}
-use Rattle.model.specs.Automaton as Automaton
-use Rattle.model.specs.Belonging.{CodeTold, MethodTold, ClassTold}
-use Rattle.model.specs.Counts.{mostClasses, mostMethods, mostLines, allLines, deepest, isLast}
-use Rattle.model.specs.Creations.{newNumber, creationsIn}
-use Rattle.model.specs.Table.{Table, put, classRow, methodRow, codeRow, size, Rows}
+use Rattle.model.specs.Vocabulary.Automaton.{State, limitsOf, countsOf, refused, fed, asFed}
+use Rattle.model.specs.Vocabulary.Automaton as Automaton
+use Rattle.model.specs.Vocabulary.Belonging.{CodeTold, MethodTold, ClassTold}
+use Rattle.model.specs.Vocabulary.Counts.{isLast}
+use Rattle.model.specs.Bounds.{mostClasses, mostMethods, mostLines, allLines, deepest}
+use Rattle.model.specs.Vocabulary.Creations.{newNumber, creationsIn}
+use Rattle.model.specs.Vocabulary.Table.{Table, put, classRow, methodRow, codeRow, tableSize, Rows}
 
 -- the number of the code line being read, among those of all methods: the method's first, and how many of its lines were read
 unfoldable pub firstLine : Counts → ℕ
@@ -84,12 +85,12 @@ partOf Key.Code = inCode
 partOf Key.End = atEnd
 
 -- how many code lines the whole methods have, and how many were read in all
-unfoldable pub whole : Part → Counts → ℕ
-whole atStart c = c .model .total
-whole inClass c = c .model .total
-whole inMethod c = c .model .total
-whole inCode c = firstLine c
-whole atEnd c = c .model .total
+unfoldable pub wholeLines : Part → Counts → ℕ
+wholeLines atStart c = c .model .total
+wholeLines inClass c = c .model .total
+wholeLines inMethod c = c .model .total
+wholeLines inCode c = firstLine c
+wholeLines atEnd c = c .model .total
 
 unfoldable pub reached : Part → Counts → ℕ
 reached atStart c = c .model .total
@@ -114,21 +115,21 @@ PartHeld atEnd s t st c = c .model .read ≡ c .model .classes
 
 -- what is known of a state by its table
 pub record Held (s : Text) (t : Table) (st : State) (c : Counts) : Type 0 where
-  pub all : length t ≡ size
+  pub all : length t ≡ tableSize
   pub classes : c .model .classes ≤ mostClasses
   pub lines : c .model .total ≤ allLines
-  pub told : Rows (ClassTold s (c .model .classes) t (whole (partOf (c .key)) c)) 0 (st .model .done)
+  pub told : Rows (ClassTold s (c .model .classes) t (wholeLines (partOf (c .key)) c)) 0 (st .model .done)
   pub creations : st .model .creations ≡ creationsIn t (reached (partOf (c .key)) c)
   pub part : PartHeld (partOf (c .key)) s t st c
 
 -- counts and a table that tell a state
 abbrev pub Tells : Text → Counts → Table → State → Type 0
-Tells s c t st = (c ≡ counted st) × Held s t st (counted st)
+Tells s c t st = (c ≡ countsOf st) × Held s t st (countsOf st)
 
 -- what they tell after a line: the same refusal, or the next state
 unfoldable pub HeldAfter : Text → Table → Automaton.Fed → Type 0
 HeldAfter s t (refused n) = Unit {0}
-HeldAfter s t (fed st) = Held s t st (counted st)
+HeldAfter s t (fed st) = Held s t st (countsOf st)
 
 abbrev pub TellsAfter : Text → Fed → Table → Automaton.Fed → Type 0
 TellsAfter s r t f = (r ≡ asFed f) × HeldAfter s t f

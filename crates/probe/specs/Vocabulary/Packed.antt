@@ -22,9 +22,9 @@ unfoldable pub packedAt : ℕ → Worked → ℕ
 packedAt p (Value z) = place p + bits z * 2 ^ 32
 packedAt p OutOfRange = place p + 2 ^ 16
 
-unfoldable pub packed : ReadValue → ℕ
-packed (Got p w) = packedAt p w
-packed (Bad p) = place p + 2 * 2 ^ 16
+unfoldable pub packedValue : ReadValue → ℕ
+packedValue (Got p w) = packedAt p w
+packedValue (Bad p) = place p + 2 * 2 ^ 16
 
 -- what a term is read in, of its numbers
 unfoldable pub around : ℕ → ℕ → ℕ → ℕ → Around

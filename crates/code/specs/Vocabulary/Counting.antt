@@ -11,16 +11,16 @@ present none = false
 present (some b) = true
 
 -- a line leaves a block or not, and enters one or not: the count after it, or none where it leaves the block that was counted from
-unfoldable pub counted : Bool → Bool → ℕ → Option ℕ
-counted false false n = some n
-counted false true n = some (n + 1)
-counted true enters zero = none
-counted true false (suc n) = some n
-counted true true (suc n) = some (n + 1)
+unfoldable pub countedOn : Bool → Bool → ℕ → Option ℕ
+countedOn false false n = some n
+countedOn false true n = some (n + 1)
+countedOn true enters zero = none
+countedOn true false (suc n) = some n
+countedOn true true (suc n) = some (n + 1)
 
 -- from a line on, what a line closes is left; back from a line, what it opens is
 unfoldable pub onward : Shape → ℕ → Option ℕ
-onward l n = counted (present (closing l)) (present (opening l)) n
+onward l n = countedOn (present (closing l)) (present (opening l)) n
 
 unfoldable pub backward : Shape → ℕ → Option ℕ
-backward l n = counted (present (opening l)) (present (closing l)) n
+backward l n = countedOn (present (opening l)) (present (closing l)) n
