@@ -7,3 +7,4 @@ pub mod Parsed
 pub mod Trees
 pub mod Values
 pub mod Vocabulary
+pub mod Within
