@@ -5,11 +5,13 @@ pub mod Ending
 pub mod Forms
 pub mod Gathering
 pub mod Going
+pub mod Jumps
 pub mod Listing
 pub mod Matching
 pub mod NewCounts
 pub mod Open
 pub mod OpenBlocks
+pub mod ReadWithin
 pub mod Respect
 pub mod Searches
 pub mod Shapes

@@ -4,3 +4,4 @@ pub mod Partners
 pub mod Reader
 pub mod Statements
 pub mod Vocabulary
+pub mod Within
