@@ -7,14 +7,14 @@ use mathlib.Core.Path.{_≡_, refl, sym, ap, subst, _∙_}
 use native.Mathlib.Omega.{arith}
 use borrow.Author.Tests.{ltb-true, ltb-false}
 use lib.Dec.{ltb}
-use lib.ListN.{length, getD}
+use lib.ListN.{length, getD, take, drop, drop-of-length-le}
 use Rattle.code.specs.declared.Shape.{Shape}
 use Rattle.code.specs.declared.Shape.the-variants as Shape
-use Rattle.code.specs.Blocks.{Block, untilElse, untilFi, untilOd, shapeNumber, opening, closing, throughAll}
+use Rattle.code.specs.Blocks.{Block, untilElse, untilFi, untilOd, shapeNumber, opening, closing, with, throughAll}
 use Rattle.code.specs.Partners.{ahead, behind, goesFrom, goesTo}
 use Rattle.code.specs.Vocabulary.Counting.{present, countedOn, onward, backward}
-use Rattle.code.proofs.Searches.{Onward, onward-begins, onward-ends, onward-met, onward-goes, Backward, backward-begins, backward-ends, backward-met, backward-goes}
-use Rattle.code.proofs.Stacks.{no-some, false-true}
+use Rattle.code.proofs.Searches.{at-line, Onward, onward-begins, onward-ends, onward-met, onward-goes, Backward, backward-begins, backward-ends, backward-met, backward-goes}
+use Rattle.code.proofs.Stacks.{no-some, false-true, all-nil}
 
 -- only a line that closes a block leaves the one that was counted from
 onward-closes : (l : Shape) (n : ℕ) → onward l n ≡ none → present (closing l) ≡ true
@@ -27,7 +27,7 @@ onward-closes l n e = go (present (closing l)) (present (opening l)) e
     go false false f = absurd (no-some n (unfold countedOn in sym f))
 
 -- the partner ahead: after the line, among the lines, and one that closes a block
-abbrev Ahead : List Shape → ℕ → ℕ → Type 0
+abbrev pub Ahead : List Shape → ℕ → ℕ → Type 0
 Ahead ls i j = (i < j) × (j < length ls) × (present (closing (getD ls j Shape.Plain)) ≡ true)
 
 module _ (ls : List Shape) (i : ℕ) where
@@ -59,13 +59,25 @@ module _ (ls : List Shape) (i : ℕ) where
 
 -- lines whose blocks close, at one of them
 module _ (ls : List Shape) (closes : throughAll ls [] ≡ some []) (i : ℕ) (inside : i < length ls) where
-  -- a line that opens a block has a partner ahead
+  -- a line that opens a block has a partner ahead: a search for it never comes to the end
   pub partner-ahead : (b : Block) → opening (getD ls i Shape.Plain) ≡ some b → Ahead ls i (ahead ls i)
   partner-ahead b e = searched-ahead ls i (length ls) (i + 1) 0 (onward-begins ls i b closes inside e) (omega arith) (omega arith)
 
   -- a line that closes a block has a partner behind
   pub partner-behind : (b : Block) → closing (getD ls i Shape.Plain) ≡ some b → behind ls i < i
   partner-behind b e = searched-behind ls i inside i 0 (backward-begins ls i b closes inside e) (omega arith)
+
+-- a `return` opens and closes no block: where it is the last line, none is open before it
+pub last-outside : (ls : List Shape) → throughAll ls [] ≡ some [] → 0 < length ls → getD ls (length ls - 1) Shape.Plain ≡ Shape.Return
+    → throughAll (take (length ls - 1) ls) [] ≡ some []
+unfolding opening closing with
+last-outside ls closes h e =
+    let i = length ls - 1 in
+    let s = at-line ls i closes (omega arith) in
+    let before : throughAll (take i ls) [] ≡ some (s .0) = s .1 ∙ ap (λ l. some (with (closing l) (s .0))) e in
+    let n : length ls ≤ suc i = omega arith in
+    let after : throughAll [] (s .0) ≡ some [] = ap (λ l. throughAll l (s .0)) (sym (drop-of-length-le ls n)) ∙ ap (λ l. throughAll (drop (suc i) ls) (with (opening l) (s .0))) (sym e) ∙ s .2 in
+    before ∙ sym (all-nil (s .0)) ∙ after
 
 -- a `return` stays where it is
 pub return-stays : (ls : List Shape) (i : ℕ) → getD ls i Shape.Plain ≡ Shape.Return → goesTo ls i ≡ i

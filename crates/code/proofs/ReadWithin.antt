@@ -1,27 +1,25 @@
 -- Whatever code value is read: its variables are below their limits, its decimals, class, method and arguments in range. Assumes nothing.
-use Prim.Native.Nat.{ℕ, suc, _+_, _-_, _≤_, _<_}
+use Prim.Native.Nat.{ℕ, _+_, _-_, _≤_, _<_}
 use Prim.Native.Char.{code}
 use mathlib.Core.Bool.{Bool, true, false}
 use mathlib.Core.List.{List, [], _∷_, _++_}
 use mathlib.Core.Option.{Option, none, some}
-use mathlib.Core.Path.{_≡_}
 use native.Mathlib.Omega.{arith}
 use lib.Dec.{eqb}
 use lib.ListN.{length, length-append}
 use Rattle.whole.specs.Lists.{Every}
 use Rattle.terms.specs.declared.Limits.{Limits}
-use Rattle.terms.specs.declared.Variable.{Variable}
 use Rattle.terms.specs.Bytes.{Text, byteAt}
 use Rattle.terms.specs.Expressions.{brackets}
-use Rattle.terms.specs.Parsed.{Parsed, got, bad, next, mapped, word, ended}
+use Rattle.terms.specs.Parsed.{got, bad, next, word, ended}
 use Rattle.terms.specs.Trees.{Expression, trees, guardTrees}
 use Rattle.terms.specs.Within.{VariableWithin, ExpressionWithin}
-use Rattle.terms.proofs.Gives.{Gives, gives-of, gives-then, gives-mapped, gives-next, gives-closed, gives-ended, gives-decimal, gives-joining}
+use Rattle.terms.proofs.Gives.{Gives, gives-then, gives-mapped, gives-next, gives-closed, gives-ended, gives-decimal, gives-joining}
 use Rattle.terms.proofs.ReadWithin.{gives-variable, gives-expression, gives-guard, trees-keep, guardTrees-keep}
 use Rattle.code.specs.declared.Form.{Form}
 use Rattle.code.specs.declared.Form.the-variants as Form
 use Rattle.code.specs.Reader.{wordOf, formOf, comma, lastMethod, argumentsAfter, operand, listed, arguments, target, rest, statement}
-use Rattle.code.specs.Statements.{Code, set, new, call, get, await, if, while, return}
+use Rattle.code.specs.Statements.{set, new, call, get, await, if, while, return}
 use Rattle.code.specs.Within.{CodeWithin}
 
 -- one item more

@@ -18,7 +18,7 @@ use Rattle.code.proofs.Counting.{Meets, leaves, goes, meets}
 use Rattle.code.proofs.Matching.{balanced-yes, balanced-no, not-balanced, fits-same, fits-open, fits-close, partners-yes, partners-unfit, partners-open, first-yes, first-no, last-yes, last-no, span, span-snoc, span-cons, span-none, between-span}
 
 -- a whole method at one of its lines: the blocks open before the line, and those after it closed by the lines that follow
-at-line : (ls : List Shape) (i : ℕ) → throughAll ls [] ≡ some [] → i < length ls
+pub at-line : (ls : List Shape) (i : ℕ) → throughAll ls [] ≡ some [] → i < length ls
     → (mid : List Block) × (throughAll (take i ls) [] ≡ some (with (closing (getD ls i Shape.Plain)) mid))
     × (throughAll (drop (suc i) ls) (with (opening (getD ls i Shape.Plain)) mid) ≡ some [])
 at-line ls i w h =

@@ -83,7 +83,7 @@ pub through-with : (l : Shape) (mid : List Block) → through l (with (closing l
 through-with l mid = through-some l (with (closing l) mid) mid (with-without (closing l) mid)
 
 module _ (l : Shape) (ls : List Shape) (bs : List Block) where
-  all-some : (after : List Block) → through l bs ≡ some after → throughAll (l ∷ ls) bs ≡ throughAll ls after
+  pub all-some : (after : List Block) → through l bs ≡ some after → throughAll (l ∷ ls) bs ≡ throughAll ls after
   unfolding throughAll
   all-some after e = rw (e, throughAll)
 

@@ -20,11 +20,6 @@ Gives P (bad at) = Unit {0}
 pub gives-of : {A : Type 0} (P : A → Type 0) (q : Parsed A) (p : ℕ) (a : A) → q ≡ got p a → Gives P q → P a
 gives-of P q p a e h = subst (Gives P) e h
 
--- one property by another
-pub gives-weaker : {A : Type 0} (Q P : A → Type 0) (q : Parsed A) → ((a : A) → Q a → P a) → Gives Q q → Gives P q
-gives-weaker Q P (got at a) f g = f a g
-gives-weaker Q P (bad at) f g = tt
-
 -- past one reading after another: what the first one gives is all that the second needs
 pub gives-then : {A B : Type 0} (Q : A → Type 0) (P : B → Type 0) (q : Parsed A) (k : ℕ → A → Parsed B)
     → Gives Q q → ((at : ℕ) (a : A) → Q a → Gives P (k at a)) → Gives P (next q k)

@@ -22,7 +22,7 @@ use Rattle.terms.specs.Expressions.{Reading, largest, startOf, star, sig
 use Rattle.terms.specs.Guards.{GuardReading, atomStartOf, ampersand, bar, atomBy, atom, conjunction, disjunction, guard}
 use Rattle.terms.specs.Leaves.{numbered, variable}
 use Rattle.terms.specs.Parsed.{Parsed, got, bad, mapped}
-use Rattle.terms.specs.Trees.{Expression, Guard, trees, guardTrees}
+use Rattle.terms.specs.Trees.{trees, guardTrees}
 use Rattle.terms.specs.Within.{VariableWithin, ExpressionWithin, GuardWithin}
 use Rattle.terms.proofs.Gives.{Gives, gives-mapped, gives-put, gives-closed, gives-decimal, gives-series}
 
