@@ -1,10 +1,13 @@
 -- What the proofs of this crate and of those above it cite.
 mod Cases
+pub mod AcceptedAt
+pub mod AcceptedText
 pub mod BlockFed
 pub mod Changes
 pub mod Closing
 pub mod CodeFed
 pub mod CodeRows
+pub mod CodeTold
 pub mod CountsOfNew
 pub mod CreationRows
 pub mod Cutting
@@ -15,6 +18,7 @@ pub mod LineTells
 pub mod LinesHeld
 pub mod Lookup
 pub mod MethodRows
+pub mod ModelTold
 pub mod NumberFed
 pub mod NumberLines
 pub mod OneVerdict
@@ -26,5 +30,6 @@ pub mod ReadBounds
 pub mod Session
 pub mod SoundEnds
 pub mod TableRows
+pub mod Telling
 pub mod VerdictBounds
 pub mod Verdicts

@@ -1,4 +1,5 @@
 -- The model text: its lines, the automaton that judges them, the verdict, and the model that an accepted text gives.
+pub mod Accepted
 pub mod Bounds
 pub mod InOrder
 pub mod Judge

@@ -1,0 +1,184 @@
+-- What a model that was read tells: method by method, class by class. Assumes nothing.
+use Prim.Native.Nat.{ℕ, _+_, _-_, _≤_, _<_, min}
+use mathlib.Core.Bool.{Bool, true, false, _&&_}
+use mathlib.Core.List.{List, [], _∷_, _++_}
+use mathlib.Core.Option.{some}
+use mathlib.Core.Path.{_≡_, refl, subst, _∙_}
+use native.Mathlib.Omega.{arith}
+use borrow.Author.Tests.{eq-eqb}
+use lib.Dec.{eqb}
+use lib.ListN.{length}
+use Rattle.whole.specs.Lists.{Every, EachFrom, totalOf}
+use Rattle.layout.specs.Layout.{mostAttributes, mostLocals}
+use Rattle.terms.specs.Bytes.{bytes}
+use Rattle.terms.specs.declared.Limits.{Limits}
+use Rattle.code.specs.Statements.{Code, newOf}
+use Rattle.code.specs.Within.{CodeWithin}
+use Rattle.code.proofs.Stacks.{false-true}
+use Rattle.model.specs.Accepted.{AcceptedMethod, AcceptedClass}
+use Rattle.model.specs.Bounds.{edition, mostClasses, mostMethods, mostParams, mostLines, allLines}
+use Rattle.model.specs.InOrder.{each}
+use Rattle.model.specs.Model.{Method, Class, Model}
+use Rattle.model.specs.ModelText.{Creation, SoFar, creationsOf, linesBegun, zeroIf, readMethod, readClass, readModel}
+use Rattle.model.proofs.CodeTold.{LineRead, reads-code, lines-accepted}
+use Rattle.model.proofs.Telling.{Reads, reads-done, reads-then, reads-so, reads-number, Along, Run, reads-each, run-each, run-keeps, run-back, run-total}
+
+-- a range that may be narrowed to 0
+zero-most : (b : Bool) (n x : ℕ) → x ≤ zeroIf b n → x ≤ n
+unfolding zeroIf
+zero-most true n x h = omega arith
+zero-most false n x h = h
+
+zero-only : (b : Bool) (n x : ℕ) → b ≡ true → x ≤ zeroIf b n → x ≡ 0
+unfolding zeroIf
+zero-only true n x e h = omega arith
+zero-only false n x e h = absurd (false-true e)
+
+-- what is carried into the first class
+abbrev nothingYet : SoFar
+nothingYet = record { total = 0; creations = []; blocks = [] }
+
+-- what a line that is a `new` notes
+creations-one : (at : ℕ) (c : Code) (n : ℕ × ℕ) → newOf c ≡ some n → creationsOf at c ≡ record { at = at; class = n .0; count = n .1 } ∷ []
+unfolding creationsOf
+creations-one at c n e = rw (creationsOf, e)
+
+-- of each `new`, its class and the count of its arguments
+module _ (F : ℕ × ℕ → Type 0) where
+  -- of a line, if it is one
+  abbrev pub NewHas : Code → Type 0
+  NewHas c = (n : ℕ × ℕ) → newOf c ≡ some n → F n
+
+  -- of those that were noted
+  abbrev pub Noted : List Creation → Type 0
+  Noted cs = Every (λ n. F (n .class, n .count)) cs
+
+  -- each line notes its own
+  noted-line : (at : ℕ) (c : Code) → Noted (creationsOf at c) → NewHas c
+  unfolding Every
+  noted-line at c h n e = subst Noted (creations-one at c n e) h .0
+
+  noted-split : (cs ds : List Creation) → Noted (cs ++ ds) → Noted cs × Noted ds
+  unfolding Every
+  noted-split [] ds h = (tt, h)
+  noted-split (c ∷ cs) ds h = let r = noted-split cs ds (h .1) in ((h .0, r .0), r .1)
+
+  -- what is noted after a line was noted before it, or is its own
+  line-news : (lim : Limits) (classes count i : ℕ) (so : SoFar) (c : Code) (t : SoFar) → LineRead lim classes count i so c t
+      → Noted (t .creations) → Noted (so .creations) × NewHas c
+  line-news lim classes count i so c t r h =
+      let s = noted-split (so .creations) (creationsOf (r .at) c) (subst Noted (r .creations) h) in
+      (s .0, noted-line (r .at) c (s .1))
+
+  -- a method read: what it is like, the lines that it adds, and its `new`s among those noted
+  pub record MethodRead (classes attrs run j : ℕ) (so : SoFar) (b : Method) (t : SoFar) : Type 0 where
+    pub like : AcceptedMethod classes attrs run j b
+    pub total : t .total ≡ so .total + length (b .code)
+    pub most : t .total ≤ allLines
+    pub news : Noted (t .creations) → Noted (so .creations) × Every NewHas (b .code)
+
+  -- a class read
+  pub record ClassRead (classes k : ℕ) (so : SoFar) (c : Class) (t : SoFar) : Type 0 where
+    pub like : AcceptedClass classes k c
+    pub total : t .total ≡ so .total + totalOf (λ b. length (b .code)) (c .methods)
+    pub most : so .total ≤ allLines → t .total ≤ allLines
+    pub news : Noted (t .creations) → Noted (so .creations) × Every (λ b. Every NewHas (b .code)) (c .methods)
+
+  -- a model read
+  pub record ModelRead (m : Model) (t : SoFar) : Type 0 where
+    pub count : (1 ≤ length m) × (length m ≤ mostClasses)
+    pub classes : EachFrom (AcceptedClass (length m)) 0 m
+    pub lines : totalOf (λ c. totalOf (λ b. length (b .code)) (c .methods)) m ≤ allLines
+    pub news : Noted (t .creations) → Every (λ c. Every (λ b. Every NewHas (b .code)) (c .methods)) m
+
+  module _ (classes : ℕ) (some-class : 0 < classes) where
+    -- the lines of a method
+    method-read : (attrs run j : ℕ) (so : SoFar) (params locals count : ℕ) (code : List Code) (t : SoFar)
+        → params ≤ zeroIf (eqb run 1 && eqb j 0) mostParams → (params ≤ locals) × (locals ≤ mostLocals)
+        → (1 ≤ count) × (count ≤ min mostLines (allLines - so .total)) → length code ≡ count
+        → Run (LineRead (record { attrs = attrs; locals = locals }) classes count) 0 (linesBegun so count) code t
+        → MethodRead classes attrs run j so (record { params = params; locals = locals; code = code }) t
+    unfolding linesBegun
+    method-read attrs run j so params locals count code t p l n e r =
+        let lim : Limits = record { attrs = attrs; locals = locals } in
+        let begun = linesBegun so count in
+        let total : t .total ≡ so .total + count =
+        run-keeps (LineRead lim classes count) (λ s. s .total ≡ so .total + count) (λ i s c u o h. o .total ∙ h) 0 begun code t r refl in
+        record {
+          like = record {
+            params = zero-most (eqb run 1 && eqb j 0) mostParams params p;
+            first = λ u z. zero-only (eqb run 1 && eqb j 0) mostParams params (rw (eq-eqb run 1 u, eq-eqb j 0 z)) p;
+            locals = l;
+            lines = (omega arith, omega arith);
+            blocks = lines-accepted lim classes count begun code t r refl e (n .0);
+            code = run-back (LineRead lim classes count) (λ _. Unit {0}) (CodeWithin lim classes) (λ i s c u o _. (tt, o .within)) 0 begun code t r tt .1;
+          };
+          total = omega arith;
+          most = omega arith;
+          news = run-back (LineRead lim classes count) (λ s. Noted (s .creations)) NewHas (line-news lim classes count) 0 begun code t r;
+        }
+
+    reads-method : (attrs run j : ℕ) (so : SoFar) → Reads (Along (MethodRead classes attrs run j so)) (readMethod classes attrs run j so)
+    unfolding readMethod
+    reads-method attrs run j so =
+        reads-then _ _ _ _ (reads-number (bytes "method=") j j) (λ _ _.
+        reads-then _ _ _ _ (reads-number (bytes "params=") 0 (zeroIf (eqb run 1 && eqb j 0) mostParams)) (λ params p.
+        reads-then _ _ _ _ (reads-number (bytes "locals=") params mostLocals) (λ locals l.
+        reads-then _ _ _ _ (reads-number (bytes "lines=") 1 (min mostLines (allLines - so .total))) (λ count n.
+        reads-then _ _ _ _
+        (reads-each _ _ (λ i s. reads-code (record { attrs = attrs; locals = locals }) classes count i s some-class) count 0 (linesBegun so count))
+        (λ code r. reads-done _ _ (method-read attrs run j so params locals count (code .0) (code .1) (p .1) l n (r .0) (r .1)))))))
+
+    class-read : (k : ℕ) (so : SoFar) (attrs given run count : ℕ) (methods : List Method) (t : SoFar)
+        → attrs ≤ mostAttributes → given ≤ zeroIf (eqb k 0) attrs → (1 - k ≤ run) × (run ≤ 1) → (run ≤ count) × (count ≤ mostMethods) → length methods ≡ count
+        → Run (MethodRead classes attrs run) 0 so methods t
+        → ClassRead classes k so (record { attrs = attrs; given = given; run = run; methods = methods }) t
+    class-read k so attrs given run count methods t a g u n e r =
+        record {
+          like = record {
+            attrs = a;
+            given = zero-most (eqb k 0) attrs given g;
+            run = u .1;
+            first = λ z. (zero-only (eqb k 0) attrs given (eq-eqb k 0 z) g, omega arith);
+            count = (omega arith, omega arith);
+            methods = run-each (MethodRead classes attrs run) (AcceptedMethod classes attrs run) (λ j s b u o. o .like) 0 so methods t r;
+          };
+          total = run-total (MethodRead classes attrs run) (λ s. s .total) (λ b. length (b .code)) (λ j s b u o. o .total) 0 so methods t r;
+          most = run-keeps (MethodRead classes attrs run) (λ s. s .total ≤ allLines) (λ j s b u o _. o .most) 0 so methods t r;
+          news = run-back (MethodRead classes attrs run) (λ s. Noted (s .creations)) (λ b. Every NewHas (b .code)) (λ j s b u o. o .news) 0 so methods t r;
+        }
+
+    reads-class : (k : ℕ) (so : SoFar) → Reads (Along (ClassRead classes k so)) (readClass classes k so)
+    unfolding readClass
+    reads-class k so =
+        reads-then _ _ _ _ (reads-number (bytes "class=") k k) (λ _ _.
+        reads-then _ _ _ _ (reads-number (bytes "attrs=") 0 mostAttributes) (λ attrs a.
+        reads-then _ _ _ _ (reads-number (bytes "given=") 0 (zeroIf (eqb k 0) attrs)) (λ given g.
+        reads-then _ _ _ _ (reads-number (bytes "run=") (1 - k) 1) (λ run u.
+        reads-then _ _ _ _ (reads-number (bytes "methods=") run mostMethods) (λ count n.
+        reads-then _ _ _ _ (reads-each _ _ (λ j s. reads-method attrs run j s) count 0 so)
+        (λ methods r. reads-done _ _ (class-read k so attrs given run count (methods .0) (methods .1) (a .1) (g .1) u n (r .0) (r .1))))))))
+
+  model-read : (count : ℕ) (m : Model) (t : SoFar) → (1 ≤ count) × (count ≤ mostClasses) → length m ≡ count
+      → Run (ClassRead count) 0 nothingYet m t → ModelRead m t
+  unfolding Every
+  model-read count m t n e r =
+      let total : t .total ≡ 0 + totalOf (λ c. totalOf (λ b. length (b .code)) (c .methods)) m =
+      run-total (ClassRead count) (λ s. s .total) _ (λ k s c u o. o .total) 0 nothingYet m t r in
+      let most : t .total ≤ allLines = run-keeps (ClassRead count) (λ s. s .total ≤ allLines) (λ k s c u o. o .most) 0 nothingYet m t r (omega arith) in
+      record {
+        count = (omega arith, omega arith);
+        classes = rw e (run-each (ClassRead count) (AcceptedClass count) (λ k s c u o. o .like) 0 nothingYet m t r);
+        lines = omega arith;
+        news = λ h. run-back (ClassRead count) (λ s. Noted (s .creations)) _ (λ k s c u o. o .news) 0 nothingYet m t r h .1;
+      }
+
+  -- the whole text
+  pub reads-model : Reads (Along ModelRead) readModel
+  unfolding readModel
+  reads-model =
+      reads-then _ _ _ _ (reads-number (bytes "creol=") edition edition) (λ _ _.
+      reads-then _ _ _ _ (reads-number (bytes "classes=") 1 mostClasses) (λ count n.
+      reads-so (Along (λ m t. (length m ≡ count) × Run (ClassRead count) 0 nothingYet m t)) (Along ModelRead) (each count 0 nothingYet (readClass count))
+      (reads-each (ClassRead count) (readClass count) (reads-class count (n .0)) count 0 nothingYet)
+      (λ r h. model-read count (r .0) (r .1) n (h .0) (h .1))))
