@@ -17,7 +17,7 @@ use Rattle.cells.specs.Configuration.{isConfiguration}
 use Rattle.cells.proofs.Open.{cells-open}
 
 modelOf : Text → Model
-modelOf s = elim (judged s) [ refusal n at ↦ [] | model m ↦ m ]
+modelOf s = elim (judged s) [ refusal v ↦ [] | model m ↦ m ]
 
 -- cells are a configuration of the four classes
 good : Cells → Bool

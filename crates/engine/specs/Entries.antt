@@ -40,7 +40,7 @@ outcome v c answers = record { verdict = v; cells = c; answers = answers; steps 
 -- answer": here and below, a refusal gives back those that were lent
 unfoldable pub withModel : Text → Cells → List ℤ → (Model → Outcome) → Outcome
 withModel s c answers go = elim (judged s) [
-  | refusal n at ↦ outcome (record { number = n; line = at }) c answers
+  | refusal v ↦ outcome v c answers
   | model m ↦ elim (eqb (length c) allCells) [ true ↦ go m | false ↦ outcome (atNoLine cellsNotAll) c answers ]
 ]
 

@@ -44,19 +44,19 @@ wholeRow st = let c = st .class in record { 0 = c .attrs; 1 = c .given; 2 = c .r
 
 -- which state comes
 module _ (st : State) where
-  method-comes : length (st .class .done) < st .class .methods → nextMethod st ≡ classAnew st Key.Method (st .class)
+  pub method-comes : length (st .class .done) < st .class .methods → nextMethod st ≡ classAnew st Key.Method (st .class)
   unfolding nextMethod
   method-comes h = rw (lt-ltb _ _ h, nextMethod) refl
 
-  none-comes : st .class .methods ≤ length (st .class .done) → nextMethod st ≡ classClosed st
+  pub none-comes : st .class .methods ≤ length (st .class .done) → nextMethod st ≡ classClosed st
   unfolding nextMethod
   none-comes h = rw (le-ltb _ _ h, nextMethod) refl
 
-  class-comes : length (classJoined st .done) < st .model .classes → classClosed st ≡ modelAnew st Key.Class (classJoined st)
+  pub class-comes : length (classJoined st .done) < st .model .classes → classClosed st ≡ modelAnew st Key.Class (classJoined st)
   unfolding classClosed
   class-comes h = rw (lt-ltb _ _ h, classClosed) refl
 
-  end-comes : st .model .classes ≤ length (classJoined st .done) → classClosed st ≡ modelAnew st Key.End (classJoined st)
+  pub end-comes : st .model .classes ≤ length (classJoined st .done) → classClosed st ≡ modelAnew st Key.End (classJoined st)
   unfolding classClosed
   end-comes h = rw (le-ltb _ _ h, classClosed) refl
 

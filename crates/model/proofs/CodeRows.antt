@@ -12,7 +12,8 @@ use Rattle.code.specs.Statements.{newOf}
 use Rattle.code.specs.Reader.{statement}
 use Rattle.code.specs.Statements.{Code}
 use Rattle.code.proofs.NewCounts.{new-class}
-use Rattle.model.specs.Vocabulary.Automaton.{State, modelCounted, classCounted, methodCounted, countsOf, creationsOf, limitsOf}
+use Rattle.model.specs.Vocabulary.Automaton.{State, modelCounted, classCounted, methodCounted, countsOf, limitsOf}
+use Rattle.model.specs.ModelText.{creationsOf}
 use Rattle.model.specs.Vocabulary.Belonging.{valueIn, CodeTold, MethodTold, ClassTold}
 use Rattle.model.specs.Vocabulary.Creations.{newNumber, creationsIn}
 use Rattle.model.specs.Vocabulary.Filling.{firstLine, thisLine, codePut, inCode, wholeLines, reached, PartHeld}

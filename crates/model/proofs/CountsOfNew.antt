@@ -11,13 +11,14 @@ use lib.Dec.{eqb}
 use lib.ListN.{length, getElem?}
 use Rattle.whole.specs.Refusals.{accepted, wrongCode}
 use Rattle.terms.specs.Bytes.{Text}
-use Rattle.model.specs.Vocabulary.Automaton.{Creation}
 use Rattle.model.specs.Vocabulary.Belonging.{ClassTold}
 use Rattle.model.specs.Vocabulary.Creations.{creationTold, creationsFrom, newFits}
 use Rattle.model.specs.Judge.{givenTo, countsJudged, model, refusal, verdictOf}
 use Rattle.model.specs.Model.{Class, Model}
+use Rattle.model.specs.ModelText.{Creation}
 use Rattle.model.specs.Vocabulary.Table.{Table, Rows, rowAt, classRow, codeRow}
 use Rattle.model.specs.declared.Row.{Row}
+use Rattle.model.specs.declared.Verdict.{Verdict}
 use Rattle.model.proofs.TableRows.{rows-at}
 
 -- within a list there is an item
@@ -50,12 +51,13 @@ given-told s n t filled m k told h =
     let p = rw (zero-add k) at (rows-at (ClassTold s n t filled) 0 m k (c .0) told (c .1)) in
     given-of m k (c .0) (c .1) ∙ sym (p .1)
 
+-- the first of some creations: its count fits, or it is refused
 module _ (m : Model) (c : Creation) (cs : List Creation) where
-  counts-fit : eqb (c .count) (givenTo m (c .class)) ≡ true → countsJudged m (c ∷ cs) ≡ countsJudged m cs
+  pub counts-fit : eqb (c .count) (givenTo m (c .class)) ≡ true → countsJudged m (c ∷ cs) ≡ countsJudged m cs
   unfolding countsJudged
   counts-fit e = rw (countsJudged, e)
 
-  counts-differ : eqb (c .count) (givenTo m (c .class)) ≡ false → countsJudged m (c ∷ cs) ≡ refusal wrongCode (c .at)
+  pub counts-differ : eqb (c .count) (givenTo m (c .class)) ≡ false → countsJudged m (c ∷ cs) ≡ refusal (record { number = wrongCode; line = c .at })
   unfolding countsJudged
   counts-differ e = rw (countsJudged, e)
 
@@ -81,7 +83,7 @@ module _ (m : Model) (at : ℕ) (cs : List Creation) where
   told-onward (suc n) e = counts-fit m _ cs e
 
   -- the first that does not is refused at its line
-  told-here : (n : ℕ) → newFits m n ≡ false → countsJudged m (creationTold at n ++ cs) ≡ refusal wrongCode at
+  told-here : (n : ℕ) → newFits m n ≡ false → countsJudged m (creationTold at n ++ cs) ≡ refusal (record { number = wrongCode; line = at })
   unfolding creationTold newFits
   told-here zero e = absurd (let z : _≡_ {A = ℕ} 0 1 = cc in omega arith)
   told-here (suc n) e = counts-differ m _ cs e
@@ -98,7 +100,7 @@ module _ (t : Table) (m : Model) (i total : ℕ) (within : i < total) where
     pub counts-onward : newFits m (x .3) ≡ true → countsJudged m (creationsFrom t i (total - i)) ≡ countsJudged m (creationsFrom t (i + 1) (total - (i + 1)))
     counts-onward e = ap (countsJudged m) row-first ∙ told-onward m _ _ _ (rw own at e)
 
-    pub counts-here : newFits m (x .3) ≡ false → countsJudged m (creationsFrom t i (total - i)) ≡ refusal wrongCode (x .2)
+    pub counts-here : newFits m (x .3) ≡ false → countsJudged m (creationsFrom t i (total - i)) ≡ refusal (record { number = wrongCode; line = x .2 })
     counts-here e = ap (countsJudged m) row-first ∙ rw own (told-here m _ _ _ (rw own at e))
 
 -- past the last row the model is accepted
@@ -109,9 +111,9 @@ counts-end t m i total h =
     rw e refl
 
 -- the verdicts of both
-pub verdict-refusal : (n at : ℕ) → verdictOf (refusal n at) ≡ record { number = n; line = at }
+pub verdict-refusal : (v : Verdict) → verdictOf (refusal v) ≡ v
 unfolding verdictOf
-verdict-refusal n at = refl
+verdict-refusal v = refl
 
 pub verdict-model : (m : Model) → verdictOf (model m) ≡ record { number = accepted; line = 0 }
 unfolding verdictOf

@@ -8,7 +8,7 @@ use native.Mathlib.Numerals.{add-one}
 use native.Mathlib.Omega.{arith}
 use Rattle.code.specs.Statements.{newOf}
 use Rattle.code.specs.Statements.{Code}
-use Rattle.model.specs.Vocabulary.Automaton.{Creation, creationsOf}
+use Rattle.model.specs.ModelText.{Creation, creationsOf}
 use Rattle.model.specs.Vocabulary.Creations.{newNumber, creationTold, creationsFrom, creationsIn}
 use Rattle.model.specs.Vocabulary.Table.{Table, rowAt, codeRow}
 

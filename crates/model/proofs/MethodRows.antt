@@ -11,7 +11,8 @@ use Rattle.code.specs.Blocks.{Block}
 use Rattle.code.specs.Statements.{Code}
 use Rattle.model.specs.declared.Key.the-variants as Key
 use Rattle.model.specs.declared.Row.{Row}
-use Rattle.model.specs.Vocabulary.Automaton.{State, modelCounted, classCounted, methodCounted, countsOf, modelAnew, classAnew, methodAnew, methodJoined, codeJoined, creationsJoined, lineJoined, creationsOf, limitsOf}
+use Rattle.model.specs.Vocabulary.Automaton.{State, modelCounted, classCounted, methodCounted, countsOf, modelAnew, classAnew, methodAnew, methodJoined, codeJoined, creationsJoined, lineJoined, limitsOf}
+use Rattle.model.specs.ModelText.{creationsOf}
 use Rattle.model.specs.Vocabulary.Belonging.{MethodTold, ClassTold}
 use Rattle.model.specs.Vocabulary.Counts.{isLast}
 use Rattle.model.specs.Vocabulary.Creations.{creationsIn}

@@ -5,10 +5,10 @@ use mathlib.Core.List.{List, [], _∷_, _++_, append-nil}
 use mathlib.Core.Option.{Option, none, some}
 use mathlib.Core.Path.{_≡_, refl, sym, subst}
 use native.Mathlib.Omega.{arith}
-use borrow.Author.Tests.{ltb-false}
+use borrow.Author.Tests.{ltb-true, ltb-false}
 use lib.Dec.{ltb, eqb}
 use lib.ListN.{length, drop}
-use Rattle.whole.specs.Refusals.{brokenLine, wrongKey, wrongNumber, wrongCode, wrongBlocks, textTooLong}
+use Rattle.whole.specs.Refusals.{brokenLine, wrongKey, wrongNumber, wrongCode, wrongBlocks}
 use Rattle.terms.specs.Bytes.{Text}
 use Rattle.terms.specs.Parsed.{Parsed, got, bad, word}
 use Rattle.terms.specs.Trees.{trees, guardTrees}
@@ -20,15 +20,18 @@ use Rattle.model.specs.declared.Asked.{Asked}
 use Rattle.model.specs.declared.Asked.the-variants as Asked
 use Rattle.model.specs.declared.Key.{Key}
 use Rattle.model.specs.declared.Key.the-variants as Key
-use Rattle.model.specs.Vocabulary.Automaton.{Creation, State, begin, freshModel, countsOf, limitsOf, modelAnew, classAnew, methodAnew, classJoined, classClosed, nextMethod, methodJoined, methodClosed, methodsBegun, linesCounted, numberFed, numberLine, creationsOf, creationsJoined, lineJoined, stated, blockLine, codeLine, valueLine, feed, Fed, refused, fed}
+use Rattle.model.specs.Vocabulary.Automaton.{State, begin, freshModel, countsOf, limitsOf, modelAnew, classAnew, methodAnew, classJoined, classClosed, nextMethod, methodJoined, methodClosed, methodsBegun, linesCounted, numberFed, numberLine, creationsJoined, lineJoined, stated, blockLine, codeLine, valueLine, feed, Fed, refused, fed}
+use Rattle.model.specs.ModelText.{Creation, creationsOf}
 use Rattle.model.specs.Vocabulary.Counts.{lowest, highest, isLast, mayStand}
-use Rattle.model.specs.Judge.{Judged, refusal, model, givenTo, countsJudged, endJudged, linesJudged, judged, verdictOf, judge}
+use Rattle.model.specs.Judge.{Judged, refusal, model, givenTo, countsJudged, judged, verdictOf, judge}
+use Rattle.model.specs.Vocabulary.Folding.{endFolded, linesFolded}
 use Rattle.model.specs.Vocabulary.Keys.{nameOf, asked}
 use Rattle.model.specs.Lines.{Line, terminated, unterminated, grown, lines, lineFeed, sound, content, longestText}
 use Rattle.model.specs.Model.{Model}
 use Rattle.model.specs.Numbers.{numberIn}
 use Rattle.model.specs.Vocabulary.Table.{Rows}
 use Rattle.model.proofs.TableRows.{rows-append, rows-keep}
+use Rattle.model.proofs.Verdicts.{judged-long, judged-short}
 
 -- creations that stand at or before a line
 abbrev Before : ℕ → List Creation → Type 0
@@ -139,12 +142,12 @@ module _ (at : ℕ) (st : State) (h : Before at (st .model .creations)) where
 
 -- a refusal with a number up to 6, at a line up to one
 Within : ℕ → Judged → Type 0
-Within last (refusal n at) = (n ≤ 6) × (at ≤ last)
+Within last (refusal v) = (v .number ≤ 6) × (v .line ≤ last)
 Within last (model m) = Unit {0}
 
 within-more : (j k : ℕ) (x : Judged) → j ≤ k → Within j x → Within k x
 unfolding Within
-within-more j k (refusal n at) h w = (w .0, omega (arith, w .1))
+within-more j k (refusal v) h w = (w .0, omega (arith, w .1))
 within-more j k (model m) h w = tt
 
 within-counts : (m : Model) (last i : ℕ) (cs : List Creation) → Rows (λ _ c. c .at ≤ last) i cs → Within last (countsJudged m cs)
@@ -152,23 +155,23 @@ unfolding Rows countsJudged Within
 within-counts m last i [] h = tt
 within-counts m last i (c ∷ cs) h = go (eqb (c .count) (givenTo m (c .class))) (within-counts m last (suc i) cs (h .1))
   where
-    go : (b : Bool) → Within last (countsJudged m cs) → Within last (elim b [ true ↦ countsJudged m cs | false ↦ refusal wrongCode (c .at) ])
+    go : (b : Bool) → Within last (countsJudged m cs) → Within last (elim b [ true ↦ countsJudged m cs | false ↦ refusal (record { number = wrongCode; line = c .at }) ])
     go true w = w
     go false w = (omega arith, h .0)
 
-within-end : (at : ℕ) (st : State) (a : Asked) → Before at (st .model .creations) → Within at (endJudged at st a)
-unfolding endJudged Within
+within-end : (at : ℕ) (st : State) (a : Asked) → Before at (st .model .creations) → Within at (endFolded at st a)
+unfolding endFolded Within
 within-end at st Asked.Number h = (omega arith, omega arith)
 within-end at st Asked.Code h = (omega arith, omega arith)
 within-end at st Asked.Nothing h = within-counts (st .model .done) at 0 (st .model .creations) h
 
-within-lines : (at : ℕ) (st : State) (ls : List Line) → Before at (st .model .creations) → Within (at + length ls) (linesJudged at st ls)
-unfolding linesJudged
+within-lines : (at : ℕ) (st : State) (ls : List Line) → Before at (st .model .creations) → Within (at + length ls) (linesFolded at st ls)
+unfolding linesFolded
 within-lines at st [] h = within-more at (at + 0) _ (omega arith) (within-end at st (asked (st .key)) h)
 within-lines at st (l ∷ ls) h = go (feed at st l) (small-feed at st h l) (λ after. within-lines (at + 1) after ls)
   where
-    go : (f : Fed) → Small at f → ((after : State) → Before (at + 1) (after .model .creations) → Within (at + 1 + length ls) (linesJudged (at + 1) after ls))
-        → Within (at + length (l ∷ ls)) (elim f [ refused n ↦ refusal n at | fed after ↦ linesJudged (at + 1) after ls ])
+    go : (f : Fed) → Small at f → ((after : State) → Before (at + 1) (after .model .creations) → Within (at + 1 + length ls) (linesFolded (at + 1) after ls))
+        → Within (at + length (l ∷ ls)) (elim f [ refused n ↦ refusal (record { number = n; line = at }) | fed after ↦ linesFolded (at + 1) after ls ])
     go (refused n) w rest = unfold Within Small in (w, omega arith)
     go (fed after) w rest =
         let b : Before at (after .model .creations) = unfold Small in w in
@@ -190,14 +193,16 @@ lines-length (b ∷ s) = go (eqb b lineFeed) (lines-length s)
     go true h = omega arith
     go false h = omega (arith, grown-length b (lines s))
 
+-- a text that is too long, and any other by the fold of its lines
 within-judged : (s : Text) → Within 32769 (judged s)
-unfolding judged
 within-judged s = go (ltb longestText (length s)) refl
   where
-    go : (b : Bool) → ltb longestText (length s) ≡ b → Within 32769 (elim b [ true ↦ refusal textTooLong 0 | false ↦ linesJudged 1 begin (lines s) ])
-    go true e = unfold Within in (omega arith, omega arith)
+    go : (b : Bool) → ltb longestText (length s) ≡ b → Within 32769 (judged s)
+    go true e = rw (judged-long s (ltb-true _ _ e)) (unfold Within in (omega arith, omega arith))
     go false e =
-        within-more (1 + length (lines s)) _ _ (omega (arith, lines-length s, ltb-false longestText (length s) e)) (within-lines 1 begin (lines s) (unfold begin freshModel Rows in tt))
+        let short = ltb-false longestText (length s) e in
+        rw (sym (judged-short s short))
+        (within-more (1 + length (lines s)) _ _ (omega (arith, lines-length s)) (within-lines 1 begin (lines s) (unfold begin freshModel Rows in tt)))
 
 -- the verdict on any text
 pub judge-small : (s : Text) → (judge s .number ≤ 6) × (judge s .line ≤ 32769)
@@ -205,5 +210,5 @@ unfolding judge
 judge-small s = go (judged s) (within-judged s)
   where
     go : (j : Judged) → Within 32769 j → (verdictOf j .number ≤ 6) × (verdictOf j .line ≤ 32769)
-    go (refusal n at) w = unfold verdictOf Within in w
+    go (refusal v) w = unfold verdictOf Within in w
     go (model m) w = unfold verdictOf in (omega arith, omega arith)

@@ -1,4 +1,4 @@
--- The model text: its lines, the automaton that judges them, the verdict, and the model that an accepted text gives.
+-- The model text: its lines, the reading of them in the document's order, the verdict, and the model that an accepted text gives.
 pub mod Accepted
 pub mod Bounds
 pub mod InOrder

@@ -5,6 +5,7 @@ pub mod Belonging
 pub mod Counts
 pub mod Creations
 pub mod Filling
+pub mod Folding
 pub mod Keys
 pub mod LineEnds
 pub mod NumberLines

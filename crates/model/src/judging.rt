@@ -20,6 +20,7 @@ ghost use Rattle.terms.specs.Bytes.{Text};
 ghost use Rattle.model.specs.Vocabulary.Automaton as Automaton;
 ghost use Rattle.model.specs.Vocabulary.Belonging as Belonging;
 ghost use Rattle.model.specs.Vocabulary.Filling as Filling;
+ghost use Rattle.model.specs.Vocabulary.Folding as Folding;
 ghost use Rattle.model.specs.Judge as Judge;
 ghost use Rattle.model.specs.Vocabulary.Keys as Keys;
 ghost use Rattle.model.specs.Model.{Model};
@@ -59,7 +60,7 @@ fn begin() -> Counts
 // The end of the text: "a text ended early names the line after its last"; and only where nothing is missing the `new`s are judged.
 fn ended(table: &[u32], counts: Counts, line: u32) -> Verdict
     requires { ⌜ ((s : Text) × (st : Automaton.State) × Filling.Tells s counts (now table) st) ⌝ }
-    ensures { λ r. ⌜ ((s : Text) (st : Automaton.State) → Filling.Tells s counts (now (table .entry)) st → r ≡ Judge.verdictOf (Judge.endJudged line st (Keys.asked (st .key)))) ⌝ }
+    ensures { λ r. ⌜ ((s : Text) (st : Automaton.State) → Filling.Tells s counts (now (table .entry)) st → r ≡ Judge.verdictOf (Folding.endFolded line st (Keys.asked (st .key)))) ⌝ }
 {
     let key = counts.key;
     match keys::asked(key) {

@@ -17,7 +17,7 @@ use Rattle.rules.specs.Step.{Kind, exec, arrive, bind, start, deliver, k
 use Rattle.rules.proofs.Open.{rules-open}
 
 modelOf : Text → Model
-modelOf s = elim (judged s) [ refusal n at ↦ [] | model m ↦ m ]
+modelOf s = elim (judged s) [ refusal v ↦ [] | model m ↦ m ]
 
 begun : Cells
 begun = newCall (newObject (write (write (replicate allCells (pos 0)) objects (pos 1)) calls (pos 1)) 1 0 1 []) 1 running 0 1 0 []

@@ -44,6 +44,6 @@ ran m choices = report (runAnswers m fresh choices) (runCells m fresh choices)
 -- "A refused model gives only `refused=` and `line=`."
 unfoldable pub runner : Text → Text → Text
 runner s input = elim (judged s) [
-  | refusal n at ↦ shownLine (bytes "refused=") n ++ shownLine (bytes "line=") at
+  | refusal v ↦ shownLine (bytes "refused=") (v .number) ++ shownLine (bytes "line=") (v .line)
   | model m ↦ ran m (choicesFrom input)
 ]

@@ -1,4 +1,4 @@
--- The text as a fold of lines: which key comes next, what was read so far, and what one line makes of it. Assumes nothing.
+-- Vocabulary of the code: the text as a fold of lines. Which key comes next, what was read so far, and what one line makes of it. Assumes nothing.
 use Prim.Native.Nat.{ℕ, _+_}
 use mathlib.Core.Bool.{true, false}
 use mathlib.Core.List.{List, [], _∷_, _++_}
@@ -11,7 +11,6 @@ use Rattle.terms.specs.Bytes.{Text}
 use Rattle.terms.specs.declared.Limits.{Limits}
 use Rattle.terms.specs.Parsed.{got, bad, word}
 use Rattle.terms.specs.Trees.{trees, guardTrees}
-use Rattle.code.specs.Statements.{newOf}
 use Rattle.code.specs.Statements.{Code}
 use Rattle.code.specs.Blocks.{Block, shapeOf, through}
 use Rattle.code.specs.Vocabulary.OpenBlocks.{packedBlocks}
@@ -29,13 +28,8 @@ use Rattle.model.specs.Vocabulary.Counts.{lowest, highest, isLast, maySt
 use Rattle.model.specs.Lines.{Line, sound, content}
 use Rattle.model.specs.Vocabulary.Keys.{nameOf, asked}
 use Rattle.model.specs.Model.{Method, Class}
+use Rattle.model.specs.ModelText.{Creation, creationsOf}
 use Rattle.model.specs.Numbers.{numberIn}
-
--- a `new` with the line that it stands at: how many arguments its class is to be given is judged last
-pub record Creation : Type 0 where
-  pub at : ℕ
-  pub class : ℕ
-  pub count : ℕ
 
 -- what was read of the model, of the class being read, and of the method being read; each with what is finished within it
 pub record InModel : Type 0 where
@@ -199,10 +193,6 @@ numberLine st value = elim (numberIn (lowest (st .key) (countsOf st)) (highest (
   | some n ↦ fed (numberFed (st .key) st n)
   | none ↦ refused wrongNumber
 ]
-
--- the `new` of a line, if it is one
-unfoldable pub creationsOf : ℕ → Code → List Creation
-creationsOf at c = elim (newOf c) [ none ↦ [] | some n ↦ record { at = at; class = n .0; count = n .1 } ∷ [] ]
 
 -- a statement joins its method, with the blocks that are open after it
 unfoldable pub codeJoined : State → Code → List Block → InMethod

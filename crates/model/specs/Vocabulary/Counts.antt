@@ -1,4 +1,4 @@
--- The range of each number and the place of each code line, by what was counted so far. Assumes nothing.
+-- Vocabulary of the code: the range of each number and the place of each code line, by what was counted so far. Assumes nothing.
 use Prim.Native.Nat.{ℕ, _+_, _-_, min}
 use mathlib.Core.Bool.{Bool, true, false, _&&_}
 use mathlib.Core.List.{List}

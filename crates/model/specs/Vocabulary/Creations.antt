@@ -4,10 +4,10 @@ use mathlib.Core.Bool.{Bool, true}
 use mathlib.Core.List.{List, [], _∷_, _++_}
 use mathlib.Core.Option.{Option, none, some}
 use lib.Dec.{eqb}
-use Rattle.model.specs.Vocabulary.Automaton.{Creation}
 use Rattle.model.specs.Bounds.{mostClasses}
 use Rattle.model.specs.Judge.{givenTo}
 use Rattle.model.specs.Model.{Model}
+use Rattle.model.specs.ModelText.{Creation}
 use Rattle.model.specs.Vocabulary.Table.{Table, rowAt, codeRow}
 
 -- a `new` as one number, of its class and of how many arguments there are; 0 for a line that is none

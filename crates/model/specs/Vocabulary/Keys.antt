@@ -1,4 +1,4 @@
--- "Every line is key=value, in this order". Assumes nothing.
+-- Vocabulary of the code: each key, and what stands behind it. Assumes nothing.
 use Rattle.terms.specs.Bytes.{Text, bytes}
 use Rattle.model.specs.declared.Asked.{Asked}
 use Rattle.model.specs.declared.Asked.the-variants as Asked

@@ -44,7 +44,7 @@ returns c s n filled m told l =
     let r = c .before .before in
     let o = r .before .before .loop in
     let e = sym (c .before .fits2 .ensures s n filled m told l) ∙ not-true _ (c .if1 .taken) in
-    sym (ap verdictOf (o .inv s n filled m told l ∙ counts-here _ m _ _ (omega arith) _ (r .row .ensures) e) ∙ verdict-refusal _ _)
+    sym (ap verdictOf (o .inv s n filled m told l ∙ counts-here _ m _ _ (omega arith) _ (r .row .ensures) e) ∙ verdict-refusal _)
 
 add-i : tie.Need-add-i Inv-loop μ-loop
 add-i c = omega arith

@@ -1,8 +1,9 @@
 -- `model::judging::ended` meets its contract. Assumes nothing.
 use Prim.Native.Nat.{_≤_}
 use Rattle.model.proofs.CountsOfNew.{verdict-refusal}
+use Rattle.model.proofs.Folding.{end-number, end-code, end-whole}
 use Rattle.model.proofs.LineTells.{asked-same}
-use Rattle.model.proofs.Verdicts.{end-number, end-code, end-whole, end-classes, end-lines, end-news, end-told}
+use Rattle.model.proofs.Verdicts.{end-classes, end-lines, end-news, end-told}
 use Rattle.model.specs.Vocabulary.Automaton.{State, countsOf, modelCounted}
 use Rattle.model.specs.Vocabulary.Creations.{creationsIn}
 use Rattle.model.specs.Judge.{countsJudged, verdictOf}
@@ -44,12 +45,12 @@ counts-judged-requires c κs =
 returns : tie.Need-returns
 returns c = λ s st t.
     let a = asked-same _ st Asked.Number (t .0) (sym (c .before .before .asked .ensures) ∙ c .enum-told .given .1) in
-    sym (ap verdictOf (end-number _ st a) ∙ verdict-refusal _ _)
+    sym (ap verdictOf (end-number _ st a) ∙ verdict-refusal _)
 
 returns-2 : tie.Need-returns-2
 returns-2 c = λ s st t.
     let a = asked-same _ st Asked.Code (t .0) (sym (c .before .before .asked .ensures) ∙ c .enum-told2 .given .1) in
-    sym (ap verdictOf (end-code _ st a) ∙ verdict-refusal _ _)
+    sym (ap verdictOf (end-code _ st a) ∙ verdict-refusal _)
 
 returns-3 : tie.Need-returns-3
 unfolding countsOf modelCounted

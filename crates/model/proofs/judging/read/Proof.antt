@@ -8,18 +8,20 @@ use native.Mathlib.Omega.{arith}
 use Prim.Native.Nat.{_+_, _-_, _≤_}
 use Rattle.model.proofs.Cutting.{line-none}
 use Rattle.model.proofs.Keeping.{begin-held}
-use Rattle.model.proofs.Verdicts.{refused-fed, next-fed, held-after, judged-long, judged-short, lines-refused, lines-fed, feed-broken, lines-ended, judge-verdict, told-refusal, end-belongs}
+use Rattle.model.proofs.Folding.{lines-refused, lines-fed, feed-broken, lines-ended}
+use Rattle.model.proofs.Verdicts.{refused-fed, next-fed, held-after, judged-long, judged-short, judge-verdict, told-refusal, end-belongs}
 use Rattle.model.proofs.SoundEnds.{SoundLine, sound-found, broken-found}
 use Rattle.model.specs.Vocabulary.Automaton.{State, begin}
 use Rattle.model.specs.Vocabulary.Filling.{Tells}
-use Rattle.model.specs.Judge.{linesJudged, judged, verdictOf}
+use Rattle.model.specs.Judge.{judged, verdictOf}
+use Rattle.model.specs.Vocabulary.Folding.{linesFolded}
 use Rattle.model.specs.Lines.{lines}
 use Rattle.model.proofs.judging.read.Statement.{statement}
 use Rattle.model.proofs.judging.read.Tie as tie
 
 abbrev Inv-loop : tie.InvT-loop
 Inv-loop text table₀ counts₀ place₀ line₀ table counts place line =
-    (st : State) × Tells text counts table st × (linesJudged line st (lines (drop place text)) ≡ judged text)
+    (st : State) × Tells text counts table st × (linesFolded line st (lines (drop place text)) ≡ judged text)
     × (place ≤ length text) × (line ≤ place + 1) × (length text ≤ 32768)
 
 abbrev μ-loop : tie.MeasureT-loop
@@ -30,7 +32,7 @@ found : (c : tie.After-end Inv-loop μ-loop) → SoundLine (now (c .before .befo
 found c = sound-found _ _ _ (sym (c .before .before .sound-line .ensures) ∙ c .end .given .1)
 
 returns : tie.Need-returns Inv-loop μ-loop
-returns c = told-refusal _ _ _ _ (judged-long _ (c .if1 .taken))
+returns c = told-refusal _ _ _ (judged-long _ (c .if1 .taken))
 
 begin-requires : tie.Need-begin-requires Inv-loop μ-loop
 begin-requires c κs = tt
@@ -54,7 +56,7 @@ returns-2 : tie.Need-returns-2 Inv-loop μ-loop
 returns-2 c =
     let i = c .before .before .before .before .loop .inv in
     let b = broken-found _ _ (sym (c .before .before .sound-line .ensures) ∙ c .enum-told .given .1) (c .before .before .before .loop-test .taken) in
-    told-refusal _ _ _ _ (sym (i .2) ∙ ap (linesJudged _ (i .0)) (b .cut) ∙ lines-refused _ (i .0) _ _ _ (feed-broken _ (i .0) _ (b .broken)))
+    told-refusal _ _ _ (sym (i .2) ∙ ap (linesFolded _ (i .0)) (b .cut) ∙ lines-refused _ (i .0) _ _ _ (feed-broken _ (i .0) _ (b .broken)))
 
 line-requires : tie.Need-line-requires Inv-loop μ-loop
 line-requires c κs =
@@ -72,7 +74,7 @@ returns-3 : tie.Need-returns-3 Inv-loop μ-loop
 returns-3 c =
     let i = c .before .before .before .before .before .before .before .before .before .before .before .before .loop .inv in
     let f = refused-fed _ _ (sym (c .before .before .before .before .before .line .ensures (i .0) (i .1) .0) ∙ c .before .number .given .1) in
-    told-refusal _ _ _ _ (sym (i .2) ∙ ap (linesJudged _ (i .0)) (found (c .before .before .before .before .before .before .before .before) .cut) ∙ lines-refused _ (i .0) _ _ _ f)
+    told-refusal _ _ _ (sym (i .2) ∙ ap (linesFolded _ (i .0)) (found (c .before .before .before .before .before .before .before .before) .cut) ∙ lines-refused _ (i .0) _ _ _ f)
 
 enum-known-after : tie.Need-enum-known-after Inv-loop μ-loop
 enum-known-after c = search needs
@@ -94,7 +96,7 @@ loop-again c =
     let f = found (c .before .before .before .before .before .before .before .before) in (
       q .0,
       (q .2, held-after _ _ _ (q .0) (q .1) (t .1)),
-      sym (lines-fed _ (i .0) _ _ (q .0) (q .1)) ∙ sym (ap (linesJudged _ (i .0)) (f .cut)) ∙ i .2,
+      sym (lines-fed _ (i .0) _ _ (q .0) (q .1)) ∙ sym (ap (linesFolded _ (i .0)) (f .cut)) ∙ i .2,
       omega (arith, f .within),
       omega (arith, f .from, i .4),
       i .5,
@@ -110,7 +112,7 @@ returns-4 : tie.Need-returns-4 Inv-loop μ-loop
 returns-4 c =
     let i = c .before .before .before .loop .inv in
     let st = i .0 in
-    let j = sym (ap (linesJudged _ st) (line-none _ _ (c .before .before .loop-test .left)) ∙ lines-ended _ st) ∙ i .2 in (
+    let j = sym (ap (linesFolded _ st) (line-none _ _ (c .before .before .loop-test .left)) ∙ lines-ended _ st) ∙ i .2 in (
       c .ended .ensures _ st (i .1) ∙ ap verdictOf j ∙ sym (judge-verdict _),
       λ m e. end-belongs _ _ st (i .1 .1) _ m (j ∙ e),
     )

@@ -1,0 +1,44 @@
+-- The fold of the automaton over the lines: at a line, and at the end of the text. Assumes nothing.
+use Prim.Native.Nat.{ℕ, _+_}
+use mathlib.Core.Bool.{false}
+use mathlib.Core.List.{List, [], _∷_}
+use mathlib.Core.Path.{_≡_, refl, ap}
+use Rattle.whole.specs.Refusals.{brokenLine, wrongKey}
+use Rattle.model.specs.declared.Asked.the-variants as Asked
+use Rattle.model.specs.Judge.{refusal, countsJudged}
+use Rattle.model.specs.Lines.{Line, sound}
+use Rattle.model.specs.Vocabulary.Automaton.{State, feed, refused, fed}
+use Rattle.model.specs.Vocabulary.Folding.{endFolded, linesFolded}
+use Rattle.model.specs.Vocabulary.Keys.{asked}
+
+-- a line that is refused, and one that leads to another state
+module _ (at : ℕ) (st : State) (l : Line) (ls : List Line) where
+  pub lines-refused : (n : ℕ) → feed at st l ≡ refused n → linesFolded at st (l ∷ ls) ≡ refusal (record { number = n; line = at })
+  unfolding linesFolded
+  lines-refused n e = rw (e, linesFolded) refl
+
+  pub lines-fed : (after : State) → feed at st l ≡ fed after → linesFolded at st (l ∷ ls) ≡ linesFolded (at + 1) after ls
+  unfolding linesFolded
+  lines-fed after e = rw (e, linesFolded) refl
+
+pub feed-broken : (at : ℕ) (st : State) (l : Line) → sound l ≡ false → feed at st l ≡ refused brokenLine
+unfolding feed
+feed-broken at st l e = rw (e, feed) refl
+
+pub lines-ended : (at : ℕ) (st : State) → linesFolded at st [] ≡ endFolded at st (asked (st .key))
+unfolding linesFolded
+lines-ended at st = refl
+
+-- the end of the text
+module _ (at : ℕ) (st : State) where
+  pub end-number : asked (st .key) ≡ Asked.Number → endFolded at st (asked (st .key)) ≡ refusal (record { number = wrongKey; line = at })
+  unfolding endFolded
+  end-number e = ap (endFolded at st) e
+
+  pub end-code : asked (st .key) ≡ Asked.Code → endFolded at st (asked (st .key)) ≡ refusal (record { number = wrongKey; line = at })
+  unfolding endFolded
+  end-code e = ap (endFolded at st) e
+
+  pub end-whole : asked (st .key) ≡ Asked.Nothing → endFolded at st (asked (st .key)) ≡ countsJudged (st .model .done) (st .model .creations)
+  unfolding endFolded
+  end-whole e = ap (endFolded at st) e
