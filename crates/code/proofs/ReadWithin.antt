@@ -33,6 +33,7 @@ abbrev Arguments : Limits → ℕ → List Expression → Type 0
 Arguments lim most es = (length es ≤ most) × Every (ExpressionWithin lim) es
 
 module _ (lim : Limits) (classes : ℕ) (s : Text) where
+  -- an expression
   gives-operand : (at : ℕ) → Gives (ExpressionWithin lim) (operand trees guardTrees lim classes s at)
   unfolding operand
   gives-operand = gives-expression (trees-keep lim) s brackets
@@ -49,6 +50,7 @@ module _ (lim : Limits) (classes : ℕ) (s : Text) where
       (λ left es k. (omega (arith, k .0), k .1))
       more p (e ∷ []) (omega arith, unfold Every in (h, tt)))
 
+  -- a list, or none
   gives-arguments : (more at : ℕ) → Gives (Arguments lim (more + 1)) (arguments trees guardTrees lim classes s more at)
   unfolding arguments
   gives-arguments more at = go (eqb (byteAt s at) (code " "))
@@ -57,12 +59,14 @@ module _ (lim : Limits) (classes : ℕ) (s : Text) where
       go true = gives-listed more (at + 1)
       go false = (omega arith, unfold Every in tt)
 
+  -- a variable and a space
   gives-target : (at : ℕ) → Gives (VariableWithin lim) (target trees guardTrees lim classes s at)
   unfolding target
   gives-target at = gives-closed _ (code " ") s _ (gives-variable lim s at)
 
   -- what follows the word of each form, where there is a class
   module _ (some-class : 0 < classes) where
+    -- each form
     gives-rest : (f : Form) (at : ℕ) → Gives (CodeWithin lim classes) (rest trees guardTrees lim classes s f at)
     unfolding rest CodeWithin
     gives-rest Form.Skip at = tt

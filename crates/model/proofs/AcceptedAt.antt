@@ -23,6 +23,7 @@ every-at P [] i x h e = absurd (let z : _≡_ {A = ℕ} 0 1 = cc in omega arith)
 every-at P (y ∷ xs) zero x h e = let f : y ≡ x = cc in subst P f (h .0)
 every-at P (y ∷ xs) (suc i) x h e = every-at P xs i x (h .1) e
 
+-- an item by its place, with its index
 each-at : {A : Type 0} (P : ℕ → A → Type 0) (n : ℕ) (xs : List A) (i : ℕ) (x : A) → EachFrom P n xs → getElem? xs i ≡ some x → P (n + i) x
 unfolding EachFrom
 each-at P n [] i x h e = absurd (let z : _≡_ {A = ℕ} 0 1 = cc in omega arith)
@@ -35,6 +36,7 @@ unfolding EachFrom
 first-at P [] h n = absurd (omega arith)
 first-at P (x ∷ xs) h n = (x, refl, h .0)
 
+-- an accepted model at one of its classes
 module _ {m : Model} (a : AcceptedModel m) (k : ℕ) (c : Class) (e : getElem? m k ≡ some c) where
   -- a class by its index
   pub class-accepted : AcceptedClass (length m) k c
@@ -54,15 +56,19 @@ module _ {m : Model} (a : AcceptedModel m) (k : ℕ) (c : Class) (e : getElem? m
         subst (λ i. AcceptedMethod (length m) (c .attrs) (c .run) i b) (zero-add j)
         (each-at (AcceptedMethod (length m) (c .attrs) (c .run)) 0 (c .methods) j b (class-accepted .methods) f)
 
-    -- a line by its index: what it is like by itself, and, if it is a `new`, that it has the arguments that its class is given
+    -- a line by its index
     module _ (i : ℕ) (l : Code) (g : getElem? (b .code) i ≡ some l) where
+      -- what it is like by itself
       pub line-accepted : CodeWithin (record { attrs = c .attrs; locals = b .locals }) (length m) l
       line-accepted = every-at _ (b .code) i l (method-accepted .code) g
 
+      -- if it is a `new`, it has the arguments that its class is given
       pub new-accepted : AcceptedNew m l
       new-accepted = every-at _ (b .code) i l (every-at _ (c .methods) j b (every-at _ m k c (a .news) e) f) g
 
+    -- where a line goes
     module _ (i : ℕ) (inside : i < length (b .code)) where
+      -- a line is one of the shapes
       within : i < length (map shapeOf (b .code))
       within = subst (λ n. i < n) (sym (length-map (b .code) shapeOf)) inside
 

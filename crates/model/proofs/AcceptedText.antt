@@ -9,8 +9,8 @@ use Rattle.model.specs.InOrder.{after}
 use Rattle.model.specs.Lines.{Line}
 use Rattle.model.specs.Model.{Class, Model}
 use Rattle.model.specs.ModelText.{SoFar, readModel}
-use Rattle.model.proofs.ModelTold.{Noted, ModelRead, reads-model}
-use Rattle.model.proofs.Telling.{Along, tells-of}
+use Rattle.model.proofs.ModelTold.{Noted, ModelRead, brings-model}
+use Rattle.model.proofs.Bringing.{Along, brought-of}
 
 -- a class and a count of arguments that fit: "exactly the given count of class K"
 abbrev pub Fitting : Model → ℕ × ℕ → Type 0
@@ -21,5 +21,5 @@ pub accepted-read : (from : ℕ) (ls : List Line) (m : Model) (so : SoFar) (at :
     → readModel from ls ≡ after (m, so) at left → Noted (Fitting m) (so .creations) → AcceptedModel m
 unfolding AcceptedNew
 accepted-read from ls m so at left e fits =
-    let r : ModelRead (Fitting m) m so = tells-of (Along (ModelRead (Fitting m))) (readModel from ls) (m, so) at left e (reads-model (Fitting m) from ls) in
+    let r : ModelRead (Fitting m) m so = brought-of (Along (ModelRead (Fitting m))) (readModel from ls) (m, so) at left e (brings-model (Fitting m) from ls) in
     record { count = r .count; classes = r .classes; lines = r .lines; news = r .news fits }

@@ -26,7 +26,7 @@ use Rattle.model.specs.Accepted.{AcceptedBlocks}
 use Rattle.model.specs.Bounds.{deepest}
 use Rattle.model.specs.InOrder.{wrong, right}
 use Rattle.model.specs.ModelText.{SoFar, creationsOf, mayStand, standing, codeLine}
-use Rattle.model.proofs.Telling.{Reads, Takes, reads-key, Along, Run}
+use Rattle.model.proofs.Bringing.{Brings, TakenAs, brings-key, Along, InTurn}
 
 -- a code line read, where so many stand in its method: what it tells by itself, and how it changes what is carried
 pub record LineRead (lim : Limits) (classes count i : ℕ) (so : SoFar) (c : Code) (t : SoFar) : Type 0 where
@@ -40,13 +40,13 @@ pub record LineRead (lim : Limits) (classes count i : ℕ) (so : SoFar) (c : Cod
 module _ (lim : Limits) (classes count : ℕ) where
   module _ (i : ℕ) (so : SoFar) where
     -- a statement that may stand at its line
-    takes-standing : (at : ℕ) (c : Code) → CodeWithin lim classes c → (o : Option (List Block)) → through (shapeOf c) (so .blocks) ≡ o
-        → Takes (Along (LineRead lim classes count i so)) (standing at (eqb (i + 1) count) so c o)
+    taken-standing : (at : ℕ) (c : Code) → CodeWithin lim classes c → (o : Option (List Block)) → through (shapeOf c) (so .blocks) ≡ o
+        → TakenAs (Along (LineRead lim classes count i so)) (standing at (eqb (i + 1) count) so c o)
     unfolding standing
-    takes-standing at c w none e = tt
-    takes-standing at c w (some bs) e = go (mayStand (eqb (i + 1) count) c bs) refl
+    taken-standing at c w none e = tt
+    taken-standing at c w (some bs) e = go (mayStand (eqb (i + 1) count) c bs) refl
       where
-        go : (b : Bool) → mayStand (eqb (i + 1) count) c bs ≡ b → Takes (Along (LineRead lim classes count i so)) (elim b [
+        go : (b : Bool) → mayStand (eqb (i + 1) count) c bs ≡ b → TakenAs (Along (LineRead lim classes count i so)) (elim b [
           | false ↦ wrong wrongBlocks
           | true ↦ right (c, record { total = so .total; creations = so .creations ++ creationsOf at c; blocks = bs })
         ])
@@ -54,16 +54,16 @@ module _ (lim : Limits) (classes count : ℕ) where
         go true f = record { within = w; through = e; stands = f; total = refl; at = at; creations = refl }
 
     -- a code line, where there is a class
-    pub reads-code : 0 < classes → Reads (Along (LineRead lim classes count i so)) (codeLine lim classes count i so)
+    pub brings-code : 0 < classes → Brings (Along (LineRead lim classes count i so)) (codeLine lim classes count i so)
     unfolding codeLine
-    reads-code some-class = reads-key _ (bytes "code=") _ (λ at v. go at (statement trees guardTrees lim classes v) (gives-statement lim classes v some-class))
+    brings-code some-class = brings-key _ (bytes "code=") _ (λ at v. go at (statement trees guardTrees lim classes v) (gives-statement lim classes v some-class))
       where
-        go : (at : ℕ) (p : Parsed Code) → Gives (CodeWithin lim classes) p → Takes (Along (LineRead lim classes count i so)) (elim p [
+        go : (at : ℕ) (p : Parsed Code) → Gives (CodeWithin lim classes) p → TakenAs (Along (LineRead lim classes count i so)) (elim p [
           | bad p ↦ wrong wrongCode
           | got p c ↦ standing at (eqb (i + 1) count) so c (through (shapeOf c) (so .blocks))
         ])
         go at (bad p) g = tt
-        go at (got p c) g = takes-standing at c g (through (shapeOf c) (so .blocks)) refl
+        go at (got p c) g = taken-standing at c g (through (shapeOf c) (so .blocks)) refl
 
 -- two tests that hold together
 both-hold : (a b : Bool) → a && b ≡ true → (a ≡ true) × (b ≡ true)
@@ -75,12 +75,13 @@ no-items : {A : Type 0} (xs : List A) → length xs ≡ 0 → xs ≡ []
 no-items [] e = refl
 no-items (x ∷ xs) e = absurd (omega arith)
 
--- a line that may stand leaves few blocks open, and where it is the last none, after a `return`
+-- a line that may stand leaves few blocks open
 may-depth : (last : Bool) (c : Code) (bs : List Block) → mayStand last c bs ≡ true → length bs ≤ deepest
 unfolding mayStand
 may-depth true c bs e = let z : length bs ≡ 0 = eqb-true _ _ (both-hold (isShape Shape.Return (shapeOf c)) _ e .1) in omega arith
 may-depth false c bs e = leb-true _ _ e
 
+-- a line of that shape
 is-return : (l : Shape) → isShape Shape.Return l ≡ true → l ≡ Shape.Return
 unfolding isShape shapeNumber
 is-return l e = go l (eqb-true _ _ e)
@@ -95,6 +96,7 @@ is-return l e = go l (eqb-true _ _ e)
     go Shape.Await e = absurd (omega arith)
     go Shape.Plain e = absurd (omega arith)
 
+-- a last line that may stand is a `return`, and leaves no block open
 may-last : (c : Code) (bs : List Block) → mayStand true c bs ≡ true → (bs ≡ []) × (shapeOf c ≡ Shape.Return)
 unfolding mayStand
 may-last c bs e =
@@ -102,8 +104,9 @@ may-last c bs e =
     (no-items bs (eqb-true _ _ (b .1)), is-return (shapeOf c) (b .0))
 
 module _ (lim : Limits) (classes count : ℕ) where
+  -- the lines of a method, or some of them
   abbrev Lines : ℕ → SoFar → List Code → SoFar → Type 0
-  Lines = Run (LineRead lim classes count)
+  Lines = InTurn (LineRead lim classes count)
 
   -- lines go through the blocks that are open
   lines-through : (i : ℕ) (so : SoFar) (cs : List Code) (t : SoFar) → Lines i so cs t → throughAll (map shapeOf cs) (so .blocks) ≡ some (t .blocks)

@@ -33,7 +33,7 @@ item-past (x ∷ xs) zero h = absurd (omega arith)
 item-past (x ∷ xs) (suc i) h = item-past xs i (omega arith)
 
 module _ (m : Model) (k : ℕ) where
-  given-of : (c : Class) → getElem? m k ≡ some c → givenTo m k ≡ c .given
+  pub given-of : (c : Class) → getElem? m k ≡ some c → givenTo m k ≡ c .given
   unfolding givenTo
   given-of c e = rw (givenTo, e)
 

@@ -1,8 +1,10 @@
 -- What the proofs of this crate and of those above it cite.
 mod Cases
 pub mod AcceptedAt
+pub mod AcceptedJudged
 pub mod AcceptedText
 pub mod BlockFed
+pub mod Bringing
 pub mod Changes
 pub mod Closing
 pub mod CodeFed
@@ -35,6 +37,5 @@ pub mod ReadBounds
 pub mod Session
 pub mod SoundEnds
 pub mod TableRows
-pub mod Telling
 pub mod VerdictBounds
 pub mod Verdicts

@@ -20,15 +20,16 @@ use Rattle.model.specs.Bounds.{edition, mostClasses, mostMethods, mostPa
 use Rattle.model.specs.InOrder.{each}
 use Rattle.model.specs.Model.{Method, Class, Model}
 use Rattle.model.specs.ModelText.{Creation, SoFar, creationsOf, linesBegun, zeroIf, readMethod, readClass, readModel}
-use Rattle.model.proofs.CodeTold.{LineRead, reads-code, lines-accepted}
-use Rattle.model.proofs.Telling.{Reads, reads-done, reads-then, reads-so, reads-number, Along, Run, reads-each, run-each, run-keeps, run-back, run-total}
+use Rattle.model.proofs.CodeTold.{LineRead, brings-code, lines-accepted}
+use Rattle.model.proofs.Bringing.{Brings, brings-done, brings-then, brings-so, brings-number, Along, InTurn, brings-each, turn-each, turn-keeps, turn-back, turn-total}
 
--- a range that may be narrowed to 0
+-- a range that may be narrowed to 0 is no wider
 zero-most : (b : Bool) (n x : ℕ) → x ≤ zeroIf b n → x ≤ n
 unfolding zeroIf
 zero-most true n x h = omega arith
 zero-most false n x h = h
 
+-- and narrowed it holds 0 alone
 zero-only : (b : Bool) (n x : ℕ) → b ≡ true → x ≤ zeroIf b n → x ≡ 0
 unfolding zeroIf
 zero-only true n x e h = omega arith
@@ -58,6 +59,7 @@ module _ (F : ℕ × ℕ → Type 0) where
   unfolding Every
   noted-line at c h n e = subst Noted (creations-one at c n e) h .0
 
+  -- some noted before others
   noted-split : (cs ds : List Creation) → Noted (cs ++ ds) → Noted cs × Noted ds
   unfolding Every
   noted-split [] ds h = (tt, h)
@@ -92,18 +94,18 @@ module _ (F : ℕ × ℕ → Type 0) where
     pub news : Noted (t .creations) → Every (λ c. Every (λ b. Every NewHas (b .code)) (c .methods)) m
 
   module _ (classes : ℕ) (some-class : 0 < classes) where
-    -- the lines of a method
+    -- a method of these numbers and lines
     method-read : (attrs run j : ℕ) (so : SoFar) (params locals count : ℕ) (code : List Code) (t : SoFar)
         → params ≤ zeroIf (eqb run 1 && eqb j 0) mostParams → (params ≤ locals) × (locals ≤ mostLocals)
         → (1 ≤ count) × (count ≤ min mostLines (allLines - so .total)) → length code ≡ count
-        → Run (LineRead (record { attrs = attrs; locals = locals }) classes count) 0 (linesBegun so count) code t
+        → InTurn (LineRead (record { attrs = attrs; locals = locals }) classes count) 0 (linesBegun so count) code t
         → MethodRead classes attrs run j so (record { params = params; locals = locals; code = code }) t
     unfolding linesBegun
     method-read attrs run j so params locals count code t p l n e r =
         let lim : Limits = record { attrs = attrs; locals = locals } in
         let begun = linesBegun so count in
         let total : t .total ≡ so .total + count =
-        run-keeps (LineRead lim classes count) (λ s. s .total ≡ so .total + count) (λ i s c u o h. o .total ∙ h) 0 begun code t r refl in
+        turn-keeps (LineRead lim classes count) (λ s. s .total ≡ so .total + count) (λ i s c u o h. o .total ∙ h) 0 begun code t r refl in
         record {
           like = record {
             params = zero-most (eqb run 1 && eqb j 0) mostParams params p;
@@ -111,27 +113,29 @@ module _ (F : ℕ × ℕ → Type 0) where
             locals = l;
             lines = (omega arith, omega arith);
             blocks = lines-accepted lim classes count begun code t r refl e (n .0);
-            code = run-back (LineRead lim classes count) (λ _. Unit {0}) (CodeWithin lim classes) (λ i s c u o _. (tt, o .within)) 0 begun code t r tt .1;
+            code = turn-back (LineRead lim classes count) (λ _. Unit {0}) (CodeWithin lim classes) (λ i s c u o _. (tt, o .within)) 0 begun code t r tt .1;
           };
           total = omega arith;
           most = omega arith;
-          news = run-back (LineRead lim classes count) (λ s. Noted (s .creations)) NewHas (line-news lim classes count) 0 begun code t r;
+          news = turn-back (LineRead lim classes count) (λ s. Noted (s .creations)) NewHas (line-news lim classes count) 0 begun code t r;
         }
 
-    reads-method : (attrs run j : ℕ) (so : SoFar) → Reads (Along (MethodRead classes attrs run j so)) (readMethod classes attrs run j so)
+    -- whatever method is read
+    brings-method : (attrs run j : ℕ) (so : SoFar) → Brings (Along (MethodRead classes attrs run j so)) (readMethod classes attrs run j so)
     unfolding readMethod
-    reads-method attrs run j so =
-        reads-then _ _ _ _ (reads-number (bytes "method=") j j) (λ _ _.
-        reads-then _ _ _ _ (reads-number (bytes "params=") 0 (zeroIf (eqb run 1 && eqb j 0) mostParams)) (λ params p.
-        reads-then _ _ _ _ (reads-number (bytes "locals=") params mostLocals) (λ locals l.
-        reads-then _ _ _ _ (reads-number (bytes "lines=") 1 (min mostLines (allLines - so .total))) (λ count n.
-        reads-then _ _ _ _
-        (reads-each _ _ (λ i s. reads-code (record { attrs = attrs; locals = locals }) classes count i s some-class) count 0 (linesBegun so count))
-        (λ code r. reads-done _ _ (method-read attrs run j so params locals count (code .0) (code .1) (p .1) l n (r .0) (r .1)))))))
+    brings-method attrs run j so =
+        brings-then _ _ _ _ (brings-number (bytes "method=") j j) (λ _ _.
+        brings-then _ _ _ _ (brings-number (bytes "params=") 0 (zeroIf (eqb run 1 && eqb j 0) mostParams)) (λ params p.
+        brings-then _ _ _ _ (brings-number (bytes "locals=") params mostLocals) (λ locals l.
+        brings-then _ _ _ _ (brings-number (bytes "lines=") 1 (min mostLines (allLines - so .total))) (λ count n.
+        brings-then _ _ _ _
+        (brings-each _ _ (λ i s. brings-code (record { attrs = attrs; locals = locals }) classes count i s some-class) count 0 (linesBegun so count))
+        (λ code r. brings-done _ _ (method-read attrs run j so params locals count (code .0) (code .1) (p .1) l n (r .0) (r .1)))))))
 
+    -- a class of these numbers and methods
     class-read : (k : ℕ) (so : SoFar) (attrs given run count : ℕ) (methods : List Method) (t : SoFar)
         → attrs ≤ mostAttributes → given ≤ zeroIf (eqb k 0) attrs → (1 - k ≤ run) × (run ≤ 1) → (run ≤ count) × (count ≤ mostMethods) → length methods ≡ count
-        → Run (MethodRead classes attrs run) 0 so methods t
+        → InTurn (MethodRead classes attrs run) 0 so methods t
         → ClassRead classes k so (record { attrs = attrs; given = given; run = run; methods = methods }) t
     class-read k so attrs given run count methods t a g u n e r =
         record {
@@ -141,44 +145,46 @@ module _ (F : ℕ × ℕ → Type 0) where
             run = u .1;
             first = λ z. (zero-only (eqb k 0) attrs given (eq-eqb k 0 z) g, omega arith);
             count = (omega arith, omega arith);
-            methods = run-each (MethodRead classes attrs run) (AcceptedMethod classes attrs run) (λ j s b u o. o .like) 0 so methods t r;
+            methods = turn-each (MethodRead classes attrs run) (AcceptedMethod classes attrs run) (λ j s b u o. o .like) 0 so methods t r;
           };
-          total = run-total (MethodRead classes attrs run) (λ s. s .total) (λ b. length (b .code)) (λ j s b u o. o .total) 0 so methods t r;
-          most = run-keeps (MethodRead classes attrs run) (λ s. s .total ≤ allLines) (λ j s b u o _. o .most) 0 so methods t r;
-          news = run-back (MethodRead classes attrs run) (λ s. Noted (s .creations)) (λ b. Every NewHas (b .code)) (λ j s b u o. o .news) 0 so methods t r;
+          total = turn-total (MethodRead classes attrs run) (λ s. s .total) (λ b. length (b .code)) (λ j s b u o. o .total) 0 so methods t r;
+          most = turn-keeps (MethodRead classes attrs run) (λ s. s .total ≤ allLines) (λ j s b u o _. o .most) 0 so methods t r;
+          news = turn-back (MethodRead classes attrs run) (λ s. Noted (s .creations)) (λ b. Every NewHas (b .code)) (λ j s b u o. o .news) 0 so methods t r;
         }
 
-    reads-class : (k : ℕ) (so : SoFar) → Reads (Along (ClassRead classes k so)) (readClass classes k so)
+    -- whatever class is read
+    brings-class : (k : ℕ) (so : SoFar) → Brings (Along (ClassRead classes k so)) (readClass classes k so)
     unfolding readClass
-    reads-class k so =
-        reads-then _ _ _ _ (reads-number (bytes "class=") k k) (λ _ _.
-        reads-then _ _ _ _ (reads-number (bytes "attrs=") 0 mostAttributes) (λ attrs a.
-        reads-then _ _ _ _ (reads-number (bytes "given=") 0 (zeroIf (eqb k 0) attrs)) (λ given g.
-        reads-then _ _ _ _ (reads-number (bytes "run=") (1 - k) 1) (λ run u.
-        reads-then _ _ _ _ (reads-number (bytes "methods=") run mostMethods) (λ count n.
-        reads-then _ _ _ _ (reads-each _ _ (λ j s. reads-method attrs run j s) count 0 so)
-        (λ methods r. reads-done _ _ (class-read k so attrs given run count (methods .0) (methods .1) (a .1) (g .1) u n (r .0) (r .1))))))))
+    brings-class k so =
+        brings-then _ _ _ _ (brings-number (bytes "class=") k k) (λ _ _.
+        brings-then _ _ _ _ (brings-number (bytes "attrs=") 0 mostAttributes) (λ attrs a.
+        brings-then _ _ _ _ (brings-number (bytes "given=") 0 (zeroIf (eqb k 0) attrs)) (λ given g.
+        brings-then _ _ _ _ (brings-number (bytes "run=") (1 - k) 1) (λ run u.
+        brings-then _ _ _ _ (brings-number (bytes "methods=") run mostMethods) (λ count n.
+        brings-then _ _ _ _ (brings-each _ _ (λ j s. brings-method attrs run j s) count 0 so)
+        (λ methods r. brings-done _ _ (class-read k so attrs given run count (methods .0) (methods .1) (a .1) (g .1) u n (r .0) (r .1))))))))
 
+  -- a model of these classes
   model-read : (count : ℕ) (m : Model) (t : SoFar) → (1 ≤ count) × (count ≤ mostClasses) → length m ≡ count
-      → Run (ClassRead count) 0 nothingYet m t → ModelRead m t
+      → InTurn (ClassRead count) 0 nothingYet m t → ModelRead m t
   unfolding Every
   model-read count m t n e r =
       let total : t .total ≡ 0 + totalOf (λ c. totalOf (λ b. length (b .code)) (c .methods)) m =
-      run-total (ClassRead count) (λ s. s .total) _ (λ k s c u o. o .total) 0 nothingYet m t r in
-      let most : t .total ≤ allLines = run-keeps (ClassRead count) (λ s. s .total ≤ allLines) (λ k s c u o. o .most) 0 nothingYet m t r (omega arith) in
+      turn-total (ClassRead count) (λ s. s .total) _ (λ k s c u o. o .total) 0 nothingYet m t r in
+      let most : t .total ≤ allLines = turn-keeps (ClassRead count) (λ s. s .total ≤ allLines) (λ k s c u o. o .most) 0 nothingYet m t r (omega arith) in
       record {
         count = (omega arith, omega arith);
-        classes = rw e (run-each (ClassRead count) (AcceptedClass count) (λ k s c u o. o .like) 0 nothingYet m t r);
+        classes = rw e (turn-each (ClassRead count) (AcceptedClass count) (λ k s c u o. o .like) 0 nothingYet m t r);
         lines = omega arith;
-        news = λ h. run-back (ClassRead count) (λ s. Noted (s .creations)) _ (λ k s c u o. o .news) 0 nothingYet m t r h .1;
+        news = λ h. turn-back (ClassRead count) (λ s. Noted (s .creations)) _ (λ k s c u o. o .news) 0 nothingYet m t r h .1;
       }
 
   -- the whole text
-  pub reads-model : Reads (Along ModelRead) readModel
+  pub brings-model : Brings (Along ModelRead) readModel
   unfolding readModel
-  reads-model =
-      reads-then _ _ _ _ (reads-number (bytes "creol=") edition edition) (λ _ _.
-      reads-then _ _ _ _ (reads-number (bytes "classes=") 1 mostClasses) (λ count n.
-      reads-so (Along (λ m t. (length m ≡ count) × Run (ClassRead count) 0 nothingYet m t)) (Along ModelRead) (each count 0 nothingYet (readClass count))
-      (reads-each (ClassRead count) (readClass count) (reads-class count (n .0)) count 0 nothingYet)
+  brings-model =
+      brings-then _ _ _ _ (brings-number (bytes "creol=") edition edition) (λ _ _.
+      brings-then _ _ _ _ (brings-number (bytes "classes=") 1 mostClasses) (λ count n.
+      brings-so (Along (λ m t. (length m ≡ count) × InTurn (ClassRead count) 0 nothingYet m t)) (Along ModelRead) (each count 0 nothingYet (readClass count))
+      (brings-each (ClassRead count) (readClass count) (brings-class count (n .0)) count 0 nothingYet)
       (λ r h. model-read count (r .0) (r .1) n (h .0) (h .1))))

@@ -38,10 +38,11 @@ pub gives-any : {A : Type 0} (q : Parsed A) → Gives (λ _. Unit {0}) q
 gives-any (got at a) = tt
 gives-any (bad at) = tt
 
--- past a reading and a map, of which nothing need be known
+-- past a reading of which nothing need be known
 pub gives-next : {A B : Type 0} (P : B → Type 0) (q : Parsed A) (k : ℕ → A → Parsed B) → ((at : ℕ) (a : A) → Gives P (k at a)) → Gives P (next q k)
 gives-next P q k h = gives-then (λ _. Unit {0}) P q k (gives-any q) (λ at a _. h at a)
 
+-- past a map that brings the property about
 pub gives-put : {A B : Type 0} (P : B → Type 0) (h : A → B) (q : Parsed A) → ((a : A) → P (h a)) → Gives P (mapped h q)
 gives-put P h q f = gives-mapped (λ _. Unit {0}) P h q (λ a _. f a) (gives-any q)
 
@@ -73,6 +74,7 @@ module _ {O A B : Type 0} (K : ℕ → B → Type 0) (I : A → Type 0) (P : B �
     (item : ℕ → Parsed A) (items : (at : ℕ) → Gives I (item at))
     (joins : (more : ℕ) (o : O) (b : B) (a : A) → K (suc more) b → I a → K more (apply o b a))
     (ends : (more : ℕ) (b : B) → K more b → P b) where
+  -- whatever comes of them has the property
   pub gives-joining : (more at : ℕ) (b : B) → K more b → Gives P (repeated (joining operator apply s item) more at b)
   gives-joining zero at b k = unfold repeated in ends zero b k
   gives-joining (suc more) at b k = go (operator (byteAt s at)) refl (gives-joining more)

@@ -67,6 +67,7 @@ pub record Keeps {A : Type 0} (R : Reading A) (lim : Limits) (P : A → Type 0) 
 module _ {A : Type 0} {R : Reading A} {lim : Limits} {P : A → Type 0} (r : Keeps R lim P) (s : Text) where
   -- a factor's parts, where what is inside brackets has the property
   module _ (inside : ℕ → Parsed A) (insides : (at : ℕ) → Gives P (inside at)) where
+    -- a factor by its start
     gives-start : (b : Start) (at : ℕ) → Gives P (factorBy R lim s b inside at)
     unfolding factorBy
     gives-start Start.Decimal at = gives-mapped _ P _ _ (r .numbers) (gives-decimal largest s at)
@@ -76,10 +77,12 @@ module _ {A : Type 0} {R : Reading A} {lim : Limits} {P : A → Type 0} (r : Kee
     gives-start Start.Opening at = insides at
     gives-start Start.Nothing at = tt
 
+    -- a factor
     gives-factor : (at : ℕ) → Gives P (factor R lim s inside at)
     unfolding factor
     gives-factor at = gives-start (startOf (byteAt s at)) at
 
+    -- products, sums, and a comparison of two
     gives-comparing : (at : ℕ) → Gives P (comparing R lim s inside at)
     unfolding comparing sum product
     gives-comparing =
@@ -104,6 +107,7 @@ module _ {A G : Type 0} {R : Reading A} {Q : GuardReading A G} {lim : Limits} {P
     (r : Keeps R lim P) (q : GuardKeeps Q lim P O) (s : Text) where
   -- an atom's parts, where what is inside brackets has its property
   module _ (test : ℕ → Parsed A) (testing : (at : ℕ) → Gives P (test at)) (inside : ℕ → Parsed G) (insides : (at : ℕ) → Gives O (inside at)) where
+    -- an atom by its start
     gives-atom-start : (b : AtomStart) (at : ℕ) → Gives O (atomBy R Q lim s b test inside at)
     unfolding atomBy
     gives-atom-start AtomStart.Wait at = gives-put O _ _ (λ _. q .waits)
@@ -112,10 +116,12 @@ module _ {A G : Type 0} {R : Reading A} {Q : GuardReading A G} {lim : Limits} {P
     gives-atom-start AtomStart.Guard at = insides at
     gives-atom-start AtomStart.Nothing at = tt
 
+    -- an atom
     gives-atom : (at : ℕ) → Gives O (atom R Q lim s test inside at)
     unfolding atom
     gives-atom at = gives-atom-start (atomStartOf (byteAt s at)) at
 
+    -- conjunctions, and what joins them
     gives-disjunction : (at : ℕ) → Gives O (disjunction R Q lim s test inside at)
     unfolding disjunction conjunction
     gives-disjunction =
@@ -130,11 +136,12 @@ module _ {A G : Type 0} {R : Reading A} {Q : GuardReading A G} {lim : Limits} {P
       _ (λ at. gives-closed P (code "]") s _ (gives-expression r s left (at + 1)))
       _ (λ at. gives-closed O (code ")") s _ (gives-guard left (at + 1)))
 
--- the trees that are read
+-- the trees of expressions
 pub trees-keep : (lim : Limits) → Keeps trees lim (ExpressionWithin lim)
 unfolding ExpressionWithin
 trees-keep lim = record { numbers = λ n h. h; variables = λ x h. h; selves = tt; callers = tt; operators = λ o a b p q. (p, q) }
 
+-- the trees of guards
 pub guardTrees-keep : (lim : Limits) → GuardKeeps guardTrees lim (ExpressionWithin lim) (GuardWithin lim)
 unfolding GuardWithin
 guardTrees-keep lim = record { waits = tt; replies = λ x h. h; tests = λ a h. h; junctions = λ j a b p q. (p, q) }
