@@ -1,7 +1,7 @@
 -- The code lines of a method are folded as they are read in order. Assumes nothing.
 use Prim.Native.Nat.{ℕ, zero, suc, _+_, _≤_}
 use mathlib.Core.Bool.{Bool, true, false}
-use mathlib.Core.List.{List, [], _∷_, _++_}
+use mathlib.Core.List.{List, [], _++_}
 use mathlib.Core.Option.{Option, none, some}
 use mathlib.Core.Path.{_≡_, refl}
 use native.Mathlib.Omega.{arith}
@@ -47,6 +47,10 @@ wholeAt (suc n) st = st
 unfoldable pub CodeLeft : State → ℕ → List Code → SoFar → State → Type 0
 CodeLeft st n cs so next = (n + length cs ≡ st .method .lines) × (wholeAt n (inCode st cs so) ≡ next)
 
+-- what is carried on from a statement, with the blocks that are open after it
+abbrev carriedOn : ℕ → SoFar → Code → List Block → SoFar
+carriedOn at so c bs = record { total = so .total; creations = so .creations ++ creationsOf at c; blocks = bs }
+
 -- where a line may stand is the same by the state
 stands-same : (st : State) (c : Code) (bs : List Block) → Counting.mayStand (countsOf st) (shapeOf c) bs ≡ mayStand (isLast (countsOf st)) c bs
 unfolding Counting.mayStand mayStand endsMethod
@@ -75,7 +79,7 @@ not-whole (suc n) st h = refl
 module _ (st : State) (n : ℕ) (cs : List Code) (so : SoFar) (left : suc n + length cs ≡ st .method .lines) where
   -- a statement joins its method
   statement-joins : (at : ℕ) (c : Code) (bs : List Block)
-      → OneMore (CodeLeft st) n cs (c, record { total = so .total; creations = so .creations ++ creationsOf at c; blocks = bs }) (stated at (inCode st cs so) c bs)
+      → OneMore (CodeLeft st) n cs (c, carriedOn at so c bs) (stated at (inCode st cs so) c bs)
   unfolding CodeLeft inCode carried lineJoined creationsJoined codeJoined modelAnew methodAnew
   statement-joins at c bs = (one-less n cs c left, stated-whole at n (inCode st cs so) c bs left)
 
@@ -88,7 +92,7 @@ module _ (st : State) (n : ℕ) (cs : List Code) (so : SoFar) (left : suc n + le
     where
       go : (b : Bool)
           → (let t : Taken (Code × SoFar) =
-          elim b [ false ↦ wrong wrongBlocks | true ↦ right (c, record { total = so .total; creations = so .creations ++ creationsOf at c; blocks = bs }) ] in
+          elim b [ false ↦ wrong wrongBlocks | true ↦ right (c, carriedOn at so c bs) ] in
           let f : Fed = elim b [ true ↦ fed (stated at (inCode st cs so) c bs) | false ↦ refused wrongBlocks ] in
           Meets (OneMore (CodeLeft st) n cs) t f)
       go true = (_, refl, statement-joins at c bs)

@@ -99,8 +99,9 @@ module _ {A : Type 0} (st : State) (value : ℕ → Text → Taken A) (Q : A →
   pub reads-key : Reads st (keyLine (nameOf (st .key)) value) Q
   reads-key = record { folds = key-folds }
 
--- a number in the range of the state's key, and what comes after it
+-- what comes after a number
 module _ {B : Type 0} {low high : ℕ} {k : ℕ → Reader B} {Q : B → State → Type 0} where
+  -- a number in the range of the state's key, whichever key it is
   pub reads-number : (key : Key) (st : State) → st .key ≡ key → asked key ≡ Asked.Number
       → lowest key (countsOf st) ≡ low → highest key (countsOf st) ≡ high
       → ((n : ℕ) → low ≤ n → Reads (numberFed key st n) (k n) Q) → Reads st (numberLine (nameOf key) low high >>= k) Q

@@ -1,12 +1,10 @@
 -- "At most 32,768 bytes; lines of at most 120 bytes from 32 to 126, each ended by LF." Assumes nothing.
-use Prim.Native.Nat.{ℕ, _+_}
+use Prim.Native.Nat.{ℕ}
 use mathlib.Core.Bool.{Bool, true, false, _&&_}
 use mathlib.Core.List.{List, [], _∷_}
 use lib.Dec.{leb, eqb}
-use lib.ListN.{length, drop}
+use lib.ListN.{length}
 use Rattle.terms.specs.Bytes.{Text}
-use Rattle.model.specs.declared.LineFound.{LineFound}
-use Rattle.model.specs.declared.LineFound.the-variants as LineFound
 
 -- "At most 32,768 bytes"
 abbrev pub longestText : ℕ

@@ -6,8 +6,6 @@ use lib.Dec.{leb}
 use Rattle.terms.specs.Bytes.{Text}
 use Rattle.terms.specs.Leaves.{decimal}
 use Rattle.terms.specs.Parsed.{got, bad, ended}
-use Rattle.model.specs.declared.NumberLine.{NumberLine}
-use Rattle.model.specs.declared.NumberLine.the-variants as Number
 
 -- the number that a value is, from its lowest to its highest
 unfoldable pub numberIn : ℕ → ℕ → Text → Option ℕ
