@@ -1,22 +1,22 @@
 -- "A configuration of a model has ..": condition by condition. Assumes nothing.
-use Prim.Native.Nat.{ℕ, _+_, _-_}
+use Prim.Native.Nat.{ℕ, _+_}
 use mathlib.Core.Bool.{Bool, true, false, _&&_, _||_}
 use mathlib.Core.List.{[], _∷_}
 use mathlib.Core.Option.{none, some}
-use lib.Dec.{leb}
+use lib.Dec.{leb, eqb}
 use lib.IntN.{ℤ, pos}
-use lib.ListN.{take, drop}
+use lib.ListN.{length}
 use Rattle.whole.specs.Plain.{all, allTo, allBelow, whenever}
 use Rattle.whole.specs.Whole.{between, eqZ, nat}
-use Rattle.layout.specs.Layout.{Cells, allCells, firstCall, objectRows, callRows, mostAttributes, mostLocals, object, call, cellOf, read, objects, calls, ofObject, ofCall, runningLabel, attribute, stage, caller, callee, method, args, line, cleared, value, local}
-use Rattle.layout.specs.Stages.{invoked, bound, running, answered, taken, nobody, labelOf, inStage}
+use Rattle.layout.specs.Layout.{Cells, allCells, objectRows, callRows, mostAttributes, mostLocals, Place, header, object, call, placeOf, read, objects, calls, ofObject, ofCall, runningLabel, attribute, caller, callee, method, args, line, cleared, value, local}
+use Rattle.layout.specs.Stages.{invoked, bound, running, answered, taken, nobody, objectsInUse, rowsInUse, labelOf, inStage, inStages}
 use Rattle.code.specs.Statements.{Code}
 use Rattle.code.specs.declared.Shape.the-variants as Shape
 use Rattle.code.specs.Blocks.{shapeOf, isShape}
 use Rattle.model.specs.Model.{Model, runs}
 use Rattle.model.specs.Bounds.{mostParams}
 use Rattle.code.specs.Reader.{lastMethod}
-use Rattle.cells.specs.Standing.{classOf, bodyOf, statementOf}
+use Rattle.cells.specs.Standing.{classOf, standingOf}
 
 -- a cell with a number
 abbrev pub is : ℤ → ℕ → Bool
@@ -26,13 +26,16 @@ is z n = eqZ z (pos n)
 unfoldable pub zeroFrom : ℕ → ℕ → (ℕ → ℤ) → Bool
 zeroFrom family from field = allBelow family (λ i. whenever (leb from i) (is (field i) 0))
 
--- the cells from one to before another are 0
-unfoldable pub allZero : Cells → Bool
-allZero [] = true
-allZero (z ∷ zs) = elim (is z 0) [ true ↦ allZero zs | false ↦ false ]
+-- a place is in use: the header, and the rows of so many objects and so many calls
+unfoldable pub placeInUse : ℕ → ℕ → Place → Bool
+placeInUse objects calls (header i) = true
+placeInUse objects calls (object o f) = leb o objects
+placeInUse objects calls (call r f) = leb r calls
 
-unfoldable pub zeroBetween : ℕ → ℕ → Cells → Bool
-zeroBetween from to c = allZero (take (to - from) (drop from c))
+-- the cells from one on are 0, save at places in use
+unfoldable pub zeroUnless : (Place → Bool) → ℕ → Cells → Bool
+zeroUnless used i [] = true
+zeroUnless used i (z ∷ zs) = elim (used (placeOf i) || is z 0) [ true ↦ zeroUnless used (i + 1) zs | false ↦ false ]
 
 module _ (m : Model) (c : Cells) where
   -- "an object's running label is 0 or a stage 4 call with that callee"
@@ -49,14 +52,10 @@ module _ (m : Model) (c : Cells) where
     | some k ↦ zeroFrom mostAttributes (k .attrs) (λ i. ofObject c o (attribute i)) && runningNamed o
   ]
 
-  -- a call's stage is in a range
-  unfoldable pub stageIn : ℕ → ℕ → ℕ → Bool
-  stageIn l first last = between (pos first) (pos last) (ofCall c l stage)
-
   -- "Stage is 1..7, caller 0..objects, callee 1..objects, method 0..7."
   unfoldable pub numbersHold : ℕ → Bool
   numbersHold l = all (
-      stageIn l invoked taken
+      inStages c l invoked taken
       ∷ between (pos 0) (read c objects) (ofCall c l caller)
       ∷ between (pos 1) (read c objects) (ofCall c l callee)
       ∷ between (pos 0) (pos lastMethod) (ofCall c l method)
@@ -80,25 +79,22 @@ module _ (m : Model) (c : Cells) where
   -- a return."
   unfoldable pub lineHolds : ℕ → Code → Bool
   lineHolds l s = all (
-      whenever (is (ofCall c l cleared) 1) (stageIn l bound running && isShape Shape.Await (shapeOf s))
+      whenever (is (ofCall c l cleared) 1) (inStages c l bound running && isShape Shape.Await (shapeOf s))
       ∷ whenever (inStage c l bound && is (ofCall c l cleared) 0) (is (ofCall c l line) 0)
-      ∷ whenever (stageIn l answered taken) (isShape Shape.Return (shapeOf s))
+      ∷ whenever (inStages c l answered taken) (isShape Shape.Return (shapeOf s))
       ∷ [])
 
   -- "From stage 3 the callee's class has the method, args is its params, line is inside it, v cells from locals on are 0."
   unfoldable pub boundHolds : ℕ → Bool
-  boundHolds l = elim (bodyOf m c l) [
+  boundHolds l = elim (standingOf m c l) [
     | none ↦ false
-    | some b ↦ zeroFrom mostLocals (b .locals) (λ i. ofCall c l (local i)) && (elim (statementOf m c l) [
-      | none ↦ false
-      | some s ↦ lineHolds l s
-    ])
+    | some s ↦ zeroFrom mostLocals (s .body .locals) (λ i. ofCall c l (local i)) && lineHolds l (s .statement)
   ]
 
   -- "Caller 0 stands only in stages 3, 4 and 7, with method 0 of a class with run 1."
   unfoldable pub callerlessHolds : ℕ → Bool
   callerlessHolds l = whenever (eqZ (ofCall c l caller) nobody) (all (
-      (stageIn l bound running || inStage c l taken)
+      (inStages c l bound running || inStage c l taken)
       ∷ is (ofCall c l method) 0
       ∷ (elim (classOf m c (nat (ofCall c l callee))) [ none ↦ false | some k ↦ runs k ])
       ∷ []))
@@ -109,22 +105,18 @@ module _ (m : Model) (c : Cells) where
       -- "Cleared is 0 or 1"
       ∷ between (pos 0) (pos 1) (ofCall c l cleared)
       -- "Value is 0 below stage 5"
-      ∷ (stageIn l answered taken || is (ofCall c l value) 0)
-      ∷ (elim (stageIn l bound taken) [ true ↦ boundHolds l | false ↦ unboundHolds l ])
+      ∷ (inStages c l answered taken || is (ofCall c l value) 0)
+      ∷ (elim (inStages c l bound taken) [ true ↦ boundHolds l | false ↦ unboundHolds l ])
       ∷ callerlessHolds l
       ∷ [])
 
-  -- "unused ones 0": the cells of the rows past the last in use
+  -- "2,370 cells of i32, unused ones 0.": every cell whose place is in no row in use is 0
   unfoldable pub unusedHold : Bool
-  unusedHold =
-      zeroBetween (cellOf (object (nat (read c objects) + 1) 0)) firstCall c
-      && zeroBetween (cellOf (call (nat (read c calls) + 1) 0)) allCells c
+  unusedHold = eqb (length c) allCells && zeroUnless (placeInUse (objectsInUse c) (rowsInUse c)) 0 c
 
-  -- "objects 1..32, calls 1..128": each row in use holds, and every other is unused
+  -- "objects 1..32, calls 1..128", and what holds of each row in use
   unfoldable pub isConfiguration : Bool
-  isConfiguration =
-      between (pos 1) (pos objectRows) (read c objects)
-      && between (pos 1) (pos callRows) (read c calls)
-      && unusedHold
-      && allTo (nat (read c objects)) objectHolds
-      && allTo (nat (read c calls)) callHolds
+  isConfiguration = elim (between (pos 1) (pos objectRows) (read c objects) && between (pos 1) (pos callRows) (read c calls)) [
+    | true ↦ unusedHold && allTo (objectsInUse c) objectHolds && allTo (rowsInUse c) callHolds
+    | false ↦ false
+  ]

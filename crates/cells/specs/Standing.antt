@@ -1,7 +1,7 @@
--- Where an object and a call stand in the model: the class, the body that binding finds, and the line. Assumes nothing.
+-- Where an object and a call stand in the model: the class, the body that binding finds, and the statement at the line. Assumes nothing.
 use Prim.Native.Nat.{ℕ}
 use mathlib.Core.List.{List, map}
-use mathlib.Core.Option.{Option}
+use mathlib.Core.Option.{Option, some}
 use lib.ListN.{getElem?}
 use Rattle.whole.specs.Plain.{_>>=_}
 use Rattle.whole.specs.Whole.{natural}
@@ -26,12 +26,18 @@ bodyOf m c l = do
   n ← natural (ofCall c l args)
   bindsTo m k j n
 
--- the statement at a call's line
-unfoldable pub statementOf : Model → Cells → ℕ → Option Code
-statementOf m c l = do
+-- where a call stands: its body, the number of its line, and the statement there
+pub record Standing : Type 0 where
+  pub body : Method
+  pub at : ℕ
+  pub statement : Code
+
+unfoldable pub standingOf : Model → Cells → ℕ → Option Standing
+standingOf m c l = do
   b ← bodyOf m c l
   i ← natural (ofCall c l line)
-  getElem? (b .code) i
+  s ← getElem? (b .code) i
+  some (record { body = b; at = i; statement = s })
 
 -- the shapes of a body's lines
 unfoldable pub shapesOf : Method → List Shape

@@ -14,80 +14,23 @@ use Rattle.terms.specs.Expressions.{Reading}
 use Rattle.terms.specs.Guards.{GuardReading}
 use Rattle.terms.specs.Leaves.{decimal}
 use Rattle.terms.specs.Parsed.{Parsed, got, bad, next, mapped, word, ended, repeated, joining}
-use Rattle.terms.proofs.Digits.{decimal-below}
-use Rattle.terms.proofs.Following.{next-mapped, repeated-none, repeated-some, joining-none, joining-some}
+use Rattle.terms.proofs.Gives.{Gives, gives-of, gives-then, gives-mapped, gives-any, gives-next, gives-decimal, gives-ended, gives-joining}
 use Rattle.code.specs.declared.Form.{Form}
 use Rattle.code.specs.declared.Form.the-variants as Form
 use Rattle.code.specs.Statements.{newOf}
 use Rattle.code.specs.Reader.{wordOf, formOf, comma, operand, listed, arguments, rest, statement}
 use Rattle.code.specs.Statements.{Statement, skip, set, new, call, get, await, if, else, fi, while, od, return}
 
--- what was read, if anything was, has a property
-abbrev Gives : {A : Type 0} → (A → Type 0) → Parsed A → Type 0
-Gives P (got at a) = P a
-Gives P (bad at) = Unit
-
-gives-of : {A : Type 0} (P : A → Type 0) (q : Parsed A) (p : ℕ) (a : A) → q ≡ got p a → Gives P q → P a
-gives-of P q p a e h = subst (Gives P) e h
-
--- a property goes past readings that follow one another, past maps and past the end of the text
-gives-then : {A B : Type 0} (Q : A → Type 0) (P : B → Type 0) (q : Parsed A) (k : ℕ → A → Parsed B)
-    → Gives Q q → ((at : ℕ) (a : A) → Q a → Gives P (k at a)) → Gives P (next q k)
-unfolding next
-gives-then Q P (got at a) k g h = h at a g
-gives-then Q P (bad at) k g h = tt
-
-gives-mapped : {A B : Type 0} (Q : A → Type 0) (P : B → Type 0) (h : A → B) (q : Parsed A) → ((a : A) → Q a → P (h a)) → Gives Q q → Gives P (mapped h q)
-unfolding mapped
-gives-mapped Q P h (got at a) f g = f a g
-gives-mapped Q P h (bad at) f g = tt
-
-gives-any : {A : Type 0} (q : Parsed A) → Gives (λ _. Unit {0}) q
-gives-any (got at a) = tt
-gives-any (bad at) = tt
-
-gives-next : {A B : Type 0} (P : B → Type 0) (q : Parsed A) (k : ℕ → A → Parsed B) → ((at : ℕ) (a : A) → Gives P (k at a)) → Gives P (next q k)
-gives-next P q k h = gives-then (λ _. Unit) P q k (gives-any q) (λ at a _. h at a)
-
-gives-decimal : (most : ℕ) (s : Text) (at : ℕ) → Gives (λ n. n ≤ most) (decimal most s at)
-gives-decimal most s at = go (decimal most s at) refl
-  where
-    go : (q : Parsed ℕ) → decimal most s at ≡ q → Gives (λ n. n ≤ most) q
-    go (got p n) e = decimal-below most s at p n e
-    go (bad p) e = tt
-
-gives-ended : {A : Type 0} (P : A → Type 0) (s : Text) (q : Parsed A) → Gives P q → Gives P (ended s q)
-unfolding ended
-gives-ended P s (got at a) h = go (eqb at (length s))
-  where
-    go : (t : Bool) → Gives P (elim t [ true ↦ got at a | false ↦ bad at ])
-    go true = h
-    go false = tt
-gives-ended P s (bad at) h = tt
-
--- each round of a list appends one argument
-module _ {A : Type 0} (s : Text) (item : ℕ → Parsed A) where
-  abbrev appending : ℕ → List A → Option (Parsed (List A))
-  appending = joining comma (λ _ es e. es ++ (e ∷ [])) s item
-
-  gives-repeated : (n more at : ℕ) (es : List A) → length es + more ≤ n → Gives (λ (ws : List A). length ws ≤ n) (repeated appending more at es)
-  gives-repeated n zero at es h = unfold repeated in omega arith
-  gives-repeated n (suc more) at es h = go (comma (byteAt s at)) refl (gives-repeated n more)
-    where
-      go : (o : Option (Unit {0})) → comma (byteAt s at) ≡ o
-          → ((at : ℕ) (es : List A) → length es + more ≤ n → Gives (λ (ws : List A). length ws ≤ n) (repeated appending more at es))
-          → Gives (λ (ws : List A). length ws ≤ n) (repeated appending (suc more) at es)
-      go none e later =
-          subst (Gives (λ (ws : List A). length ws ≤ n)) (sym (repeated-none appending more at es (joining-none comma _ s item at es e))) (omega arith)
-      go (some o) e later =
-          subst (Gives (λ (ws : List A). length ws ≤ n))
-          (sym (repeated-some appending more at es _ (joining-some comma _ s item at es o e) ∙ next-mapped (λ e. es ++ (e ∷ [])) (item (at + 1)) _))
-          (gives-next _ (item (at + 1)) _ (λ p e. later p (es ++ (e ∷ [])) (omega (arith, length-append es (e ∷ [])))))
-
 module _ {A G : Type 0} (R : Reading A) (Q : GuardReading A G) (lim : Limits) (classes : ℕ) (s : Text) where
   gives-listed : (more at : ℕ) → Gives (λ (es : List A). length es ≤ more + 1) (listed R Q lim classes s more at)
   unfolding listed
-  gives-listed more at = gives-next _ (operand R Q lim classes s at) _ (λ p a. gives-repeated s _ (more + 1) more p (a ∷ []) (omega arith))
+  gives-listed more at =
+      gives-next _ (operand R Q lim classes s at) _ (λ p a.
+      gives-joining (λ left (es : List A). length es + left ≤ more + 1) (λ _. Unit {0}) (λ es. length es ≤ more + 1) comma _ s (operand R Q lim classes s)
+      (λ at. gives-any (operand R Q lim classes s at))
+      (λ left o es e h _. omega (arith, length-append es (e ∷ [])))
+      (λ left es h. omega arith)
+      more p (a ∷ []) (omega arith))
 
   gives-arguments : (more at : ℕ) → Gives (λ (es : List A). length es ≤ more + 1) (arguments R Q lim classes s more at)
   unfolding arguments

@@ -7,15 +7,15 @@ use mathlib.Core.Path.{refl}
 use lib.IntN.{ℤ, pos, negsuc}
 use lib.ListN.{replicate}
 use Rattle.whole.proofs.Tables.{Row, _is_, Holds}
-use Rattle.layout.specs.Layout.{Cells, allCells, toObject, toCall, runningLabel, stage, value}
+use Rattle.layout.specs.Layout.{Cells, allCells, object, call, written, toObject, runningLabel, stage, value}
 use Rattle.layout.specs.Stages.{taken}
 use Rattle.terms.specs.Bytes.{Text, bytes}
 use Rattle.model.proofs.Session.{session-texts, session-with}
+use Rattle.cells.specs.Fresh.{fresh}
 use Rattle.rules.specs.declared.Choice.{Choice}
-use Rattle.rules.specs.Step.{Kind, exec, arrive, deliver, kindNumber}
+use Rattle.rules.specs.Kinds.{exec, arrive, deliver, choose}
 use Rattle.engine.specs.Drive.{mostSteps}
 use Rattle.engine.specs.Entries.{Outcome, start, step, run, drive}
-use Rattle.engine.specs.Start.{fresh}
 use Rattle.engine.proofs.Open.{engine-open}
 
 -- a model that returns 9 at once, and a text that is refused with 3 at its line 24
@@ -33,18 +33,15 @@ long : Cells
 long = fresh ++ (pos 0 ∷ [])
 
 broken : Cells
-broken = toObject fresh 1 runningLabel (pos 0)
+broken = written fresh (toObject 1 runningLabel (pos 0))
 
 -- the cells after the return
 returned : Cells
-returned = toObject (toCall (toCall fresh 1 value (pos 9)) 1 stage (pos taken)) 1 runningLabel (pos 0)
-
-choice : Kind → ℕ → Choice
-choice k n = record { kind = pos (kindNumber k); number = pos n }
+returned = written fresh ((call 1 value, pos 9) ∷ (call 1 stage, pos taken) ∷ (object 1 runningLabel, pos 0) ∷ [])
 
 -- a choice that is refused with 12, one that is accepted, and one that is refused with 26
 choices : List Choice
-choices = choice exec 2 ∷ choice exec 1 ∷ choice deliver 1 ∷ []
+choices = choose exec 2 ∷ choose exec 1 ∷ choose deliver 1 ∷ []
 
 -- answers as many as the choices, and one fewer
 three : List ℤ
@@ -70,27 +67,27 @@ first-table : List (Row Outcome)
 first-table =
     -- "Every entry judges the text first": whatever else is wrong
     (start bad-text short is leaving 3 24 short [])
-    ∷ (step bad-text short (choice exec 2) is leaving 3 24 short [])
+    ∷ (step bad-text short (choose exec 2) is leaving 3 24 short [])
     ∷ (run bad-text short choices two is leaving 3 24 short two)
     ∷ (drive bad-text short (mostSteps + 1) is leaving 3 24 short [])
     ∷ (run bad-text broken choices two is leaving 3 24 broken two)
     -- "then 10"
     ∷ (start good-text short is leaving 10 0 short [])
     ∷ (start good-text long is leaving 10 0 long [])
-    ∷ (step good-text long (choice exec 2) is leaving 10 0 long [])
+    ∷ (step good-text long (choose exec 2) is leaving 10 0 long [])
     ∷ (run good-text short choices two is leaving 10 0 short two)
     ∷ (drive good-text short (mostSteps + 1) is leaving 10 0 short [])
     ∷ []
 
 first : Holds first-table
-unfolding engine-open session-texts good-text bad-text short long broken choice choices three two leaving drove first-table
+unfolding engine-open session-texts good-text bad-text short long broken choices three two leaving drove first-table
 first = (refl, (refl, (refl, (refl, (refl, (refl, (refl, (refl, (refl, (refl, tt))))))))))
 
 then-table : List (Row Outcome)
 then-table =
     -- "then (start excepted) 11"
     (start good-text broken is leaving 0 0 fresh [])
-    ∷ (step good-text broken (choice exec 2) is leaving 11 0 broken [])
+    ∷ (step good-text broken (choose exec 2) is leaving 11 0 broken [])
     ∷ (run good-text broken choices two is leaving 11 0 broken two)
     ∷ (run good-text broken choices three is leaving 11 0 broken three)
     ∷ (drive good-text broken (mostSteps + 1) is leaving 11 0 broken [])
@@ -99,14 +96,17 @@ then-table =
     ∷ (run good-text fresh [] two is leaving 13 0 fresh two)
     ∷ (drive good-text fresh 10001 is leaving 14 0 fresh [])
     ∷ (drive good-text fresh 10000 is drove 1 returned)
+    -- quiet is worked out at the end always: after no step, on cells where nothing is accepted
+    ∷ (drive good-text returned 0 is drove 0 returned)
+    ∷ (drive good-text fresh 1 is drove 1 returned)
     -- "then the choice"
-    ∷ (step good-text fresh (choice exec 2) is leaving 12 0 fresh [])
-    ∷ (step good-text fresh (choice arrive 1) is leaving 20 0 fresh [])
-    ∷ (step good-text fresh (choice exec 1) is leaving 0 0 returned [])
+    ∷ (step good-text fresh (choose exec 2) is leaving 12 0 fresh [])
+    ∷ (step good-text fresh (choose arrive 1) is leaving 20 0 fresh [])
+    ∷ (step good-text fresh (choose exec 1) is leaving 0 0 returned [])
     -- "12 and 20 to 33 inside a run fill only their own place in the answers"
     ∷ (run good-text fresh choices three is leaving 0 0 returned (pos 12 ∷ pos 0 ∷ pos 26 ∷ []))
     ∷ []
 
 then : Holds then-table
-unfolding engine-open session-texts good-text bad-text short long broken returned choice choices three two leaving drove then-table
-then = (refl, (refl, (refl, (refl, (refl, (refl, (refl, (refl, (refl, (refl, (refl, (refl, (refl, tt)))))))))))))
+unfolding engine-open session-texts good-text bad-text short long broken returned choices three two leaving drove then-table
+then = (refl, (refl, (refl, (refl, (refl, (refl, (refl, (refl, (refl, (refl, (refl, (refl, (refl, (refl, (refl, tt)))))))))))))))

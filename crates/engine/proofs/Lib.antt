@@ -1,3 +1,5 @@
 -- What the proofs of this crate and of those above it cite.
 mod Cases
+mod Orders
 pub mod Open
+pub mod Quiet

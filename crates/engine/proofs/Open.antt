@@ -2,11 +2,10 @@
 use Rattle.engine.specs.Drive
 use Rattle.engine.specs.Entries
 use Rattle.engine.specs.Run
-use Rattle.engine.specs.Start
 use Rattle.rules.proofs.Open.{rules-open}
 
 unfoldable pub engine-open : Unit {0}
-unfolding rules-open Drive.inUse Drive.choicesOf Drive.choicesIn Drive.firstAccepted Drive.isQuiet Drive.driven Entries.atNoLine
-    Entries.outcome Entries.withModel Entries.withConfiguration Entries.start Entries.step Entries.run Entries.droveTo Entries.driveIn
-    Entries.drive Run.answerOf Run.cellsAfter Run.runCells Run.runAnswers Run.paired Start.fresh
+unfolding rules-open Drive.choicesOf Drive.choicesIn Drive.firstAccepted Drive.isRefused Drive.quietAt Drive.quietIn Drive.isQuiet
+    Drive.driven Entries.atNoLine Entries.outcome Entries.onModel Entries.onConfiguration Entries.start Entries.step Entries.run
+    Entries.droveTo Entries.driveIn Entries.drive Run.runCells Run.runAnswers
 engine-open = tt

@@ -2,7 +2,7 @@
 -- first, then 10, then (start excepted) 11, then 13 or 14, then the choice". Assumes nothing.
 use Prim.Native.Nat.{ℕ}
 use mathlib.Core.Bool.{Bool, true, false}
-use mathlib.Core.List.{List, []}
+use mathlib.Core.List.{List, [], _∷_}
 use lib.Dec.{leb, eqb}
 use lib.IntN.{ℤ}
 use lib.ListN.{length}
@@ -13,10 +13,12 @@ use Rattle.model.specs.declared.Verdict.{Verdict}
 use Rattle.model.specs.Judge.{refusal, model, judged}
 use Rattle.model.specs.Model.{Model}
 use Rattle.cells.specs.Configuration.{isConfiguration}
+use Rattle.cells.specs.Fresh.{fresh}
 use Rattle.rules.specs.declared.Choice.{Choice}
-use Rattle.rules.specs.Step.{Kind, next}
-use Rattle.engine.specs.Start.{fresh}
-use Rattle.engine.specs.Run.{runCells, runAnswers, answerOf, cellsAfter}
+use Rattle.rules.specs.Kinds.{Kind}
+use Rattle.rules.specs.Next.{answerOf}
+use Rattle.rules.specs.Step.{next}
+use Rattle.engine.specs.Run.{runCells, runAnswers}
 use Rattle.engine.specs.Drive.{mostSteps, execFirst, Driven, driven, isQuiet}
 
 -- what an entry gives, and what it leaves in the memory that was lent: `steps` and `quiet` are drive's, and `answers` run's
@@ -38,47 +40,47 @@ outcome v c answers = record { verdict = v; cells = c; answers = answers; steps 
 
 -- the text, then 10: what an entry does with the model of an accepted text and cells of the right number. "A refusal writes no cell and no
 -- answer": here and below, a refusal gives back those that were lent
-unfoldable pub withModel : Text → Cells → List ℤ → (Model → Outcome) → Outcome
-withModel s c answers go = elim (judged s) [
+unfoldable pub onModel : Text → Cells → List ℤ → (Model → Outcome) → Outcome
+onModel s c answers go = elim (judged s) [
   | refusal v ↦ outcome v c answers
   | model m ↦ elim (eqb (length c) allCells) [ true ↦ go m | false ↦ outcome (atNoLine cellsNotAll) c answers ]
 ]
 
 -- then 11
-unfoldable pub withConfiguration : Text → Cells → List ℤ → (Model → Outcome) → Outcome
-withConfiguration s c answers go = withModel s c answers (λ m. elim (isConfiguration m c) [
+unfoldable pub onConfiguration : Text → Cells → List ℤ → (Model → Outcome) → Outcome
+onConfiguration s c answers go = onModel s c answers (λ m. elim (isConfiguration m c) [
   | true ↦ go m
   | false ↦ outcome (atNoLine noConfiguration) c answers
 ])
 
 -- start: every cell is written, whatever it held
 unfoldable pub start : Text → Cells → Outcome
-start s c = withModel s c [] (λ m. outcome (atNoLine accepted) fresh [])
+start s c = onModel s c [] (λ m. outcome (atNoLine accepted) fresh [])
 
--- step: one choice
+-- step: a run of one choice, whose answer is the entry's own
 unfoldable pub step : Text → Cells → Choice → Outcome
-step s c choice = withConfiguration s c [] (λ m. outcome (atNoLine (answerOf (next m c choice))) (cellsAfter c (next m c choice)) [])
+step s c choice = onConfiguration s c [] (λ m. outcome (atNoLine (answerOf (next m c choice))) (runCells m c (choice ∷ [])) [])
 
 -- run: "12 and 20 to 33 inside a run fill only their own place in the answers"
 unfoldable pub run : Text → Cells → List Choice → List ℤ → Outcome
-run s c choices answers = withConfiguration s c answers (λ m. elim (eqb (length answers) (length choices)) [
+run s c choices answers = onConfiguration s c answers (λ m. elim (eqb (length answers) (length choices)) [
   | true ↦ outcome (atNoLine accepted) (runCells m c choices) (runAnswers m c choices)
   | false ↦ outcome (atNoLine answersDiffer) c answers
 ])
 
 -- drive: "It gives the steps taken, and quiet"
-unfoldable pub droveTo : Model → List Kind → Driven → Outcome
-droveTo m order d = record {
+unfoldable pub droveTo : Model → Driven → Outcome
+droveTo m d = record {
   verdict = atNoLine accepted;
   cells = d .cells;
   answers = [];
   steps = d .steps;
-  quiet = isQuiet m (d .cells) order;
+  quiet = isQuiet m (d .cells);
 }
 
 unfoldable pub driveIn : List Kind → Text → Cells → ℕ → Outcome
-driveIn order s c budget = withConfiguration s c [] (λ m. elim (leb budget mostSteps) [
-  | true ↦ droveTo m order (driven m order budget 0 c)
+driveIn order s c budget = onConfiguration s c [] (λ m. elim (leb budget mostSteps) [
+  | true ↦ droveTo m (driven m order budget 0 c)
   | false ↦ outcome (atNoLine budgetTooLarge) c []
 ])
 

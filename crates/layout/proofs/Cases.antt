@@ -1,18 +1,19 @@
 -- Whose reply is in, computed: object 1 issued call 1, whose reply is in, and call 2, which is only answered. Assumes nothing.
-use mathlib.Core.List.{List, [], _∷_}
+use mathlib.Core.List.{List, [], _∷_, _++_}
 use mathlib.Core.Option.{Option, none, some}
 use mathlib.Core.Path.{refl}
 use Prim.Native.Nat.{ℕ}
 use lib.IntN.{pos, negsuc}
 use lib.ListN.{replicate}
 use Rattle.whole.proofs.Tables.{Row, _is_, Holds}
-use Rattle.layout.specs.Layout.{Cells, allCells, write, objects, calls, newCall}
+use Rattle.layout.specs.Layout.{Cells, allCells, written, objects, calls, newCall}
 use Rattle.layout.specs.Stages.{answered, replied, replyFor, objectOf, labelOf}
 use Rattle.layout.proofs.Open.{layout-open}
 
 two-calls : Cells
 two-calls =
-    newCall (newCall (write (write (replicate allCells (pos 0)) objects (pos 2)) calls (pos 2)) 1 replied 1 2 0 []) 2 answered 1 2 0 []
+    written (replicate allCells (pos 0))
+    ((objects, pos 2) ∷ (calls, pos 2) ∷ newCall 1 replied 1 2 0 [] ++ newCall 2 answered 1 2 0 [])
 
 table : List (Row (Option ℕ))
 table =

@@ -1,5 +1,6 @@
 -- The laws of the layout, and what the proofs above cite.
 mod Cases
+pub mod Fields
 pub mod Laws
 pub mod Numbers
 pub mod Open

@@ -1,9 +1,13 @@
 -- "The configuration", "2,370 cells of i32": the cells by named places. All that is said of a configuration goes through these names,
 -- so that a wider row changes the constants here and nothing else. Assumes nothing.
-use Prim.Native.Nat.{ℕ, _+_, _-_, _*_, _≤_, _<_}
+use Prim.Native.Nat.{ℕ, _+_, _-_, _*_, _/_, _%_}
+use mathlib.Core.Bool.{Bool, true, false, _&&_}
 use mathlib.Core.List.{List, [], _∷_, _++_}
+use mathlib.Core.Option.{Option, none, some}
+use lib.Dec.{leb, ltb}
 use lib.ListN.{length, getD, set, take, replicate}
 use lib.IntN.{ℤ, pos}
+use Rattle.whole.specs.Plain.{onlyIf}
 
 abbrev pub Cells : Type 0
 Cells = List ℤ
@@ -50,24 +54,47 @@ pub data Place : Type 0 where
   object : ℕ → ℕ → Place
   call : ℕ → ℕ → Place
 
--- the places that a configuration has
-abbrev pub Stands : Place → Type 0
-Stands (header i) = i < headerCells
-Stands (object o f) = (1 ≤ o) × (o ≤ objectRows) × (f < objectCells)
-Stands (call r f) = (1 ≤ r) × (r ≤ callRows) × (f < callCells)
+-- a row, "from 1", of so many
+unfoldable pub isRow : ℕ → ℕ → Bool
+isRow rows r = leb 1 r && leb r rows
 
--- the cell of a place
+-- the places that a configuration has
+unfoldable pub stands : Place → Bool
+stands (header i) = ltb i headerCells
+stands (object o f) = isRow objectRows o && ltb f objectCells
+stands (call r f) = isRow callRows r && ltb f callCells
+
+-- the cell of a place that stands
 unfoldable pub cellOf : Place → ℕ
 cellOf (header i) = i
 cellOf (object o f) = firstObject + (o - 1) * objectCells + f
 cellOf (call r f) = firstCall + (r - 1) * callCells + f
 
--- what stands at a place; a cell that is not there reads as 0
-unfoldable pub read : Cells → Place → ℤ
-read c p = getD c (cellOf p) (pos 0)
+-- and the place of a cell
+unfoldable pub placeOf : ℕ → Place
+placeOf i = elim (ltb i firstObject) [
+  | true ↦ header i
+  | false ↦ elim (ltb i firstCall) [
+    | true ↦ object ((i - firstObject) / objectCells + 1) ((i - firstObject) % objectCells)
+    | false ↦ call ((i - firstCall) / callCells + 1) ((i - firstCall) % callCells)
+  ]
+]
 
+-- what stands at a place; a place that does not stand, and a cell that is not there, read as 0
+unfoldable pub read : Cells → Place → ℤ
+read c p = elim (stands p) [ true ↦ getD c (cellOf p) (pos 0) | false ↦ pos 0 ]
+
+-- a value put at a place; at one that does not stand nothing changes
 unfoldable pub write : Cells → Place → ℤ → Cells
-write c p z = set c (cellOf p) z
+write c p z = elim (stands p) [ true ↦ set c (cellOf p) z | false ↦ c ]
+
+-- a value for a place, and several of them written from the left
+abbrev pub Write : Type 0
+Write = Place × ℤ
+
+unfoldable pub written : Cells → List Write → Cells
+written c [] = c
+written c (w ∷ ws) = written (write c (w .0) (w .1)) ws
 
 -- "Cell 0: objects; cell 1: calls issued."
 abbrev pub objects : Place
@@ -114,42 +141,38 @@ value = 7
 abbrev pub local : ℕ → ℕ
 local i = 8 + i
 
--- the row of a label. Today it is the label: "Row i, from 1, is object i or label i." This one function is the way from the one to the other
-unfoldable pub rowOf : Cells → ℕ → ℕ
-rowOf c label = label
-
--- a field of an object, and of a call by its label
+-- a field of an object, and a value for it
 unfoldable pub ofObject : Cells → ℕ → ℕ → ℤ
 ofObject c o f = read c (object o f)
 
+unfoldable pub toObject : ℕ → ℕ → ℤ → List Write
+toObject o f z = (object o f, z) ∷ []
+
+-- the row of a label, if it has one: "Row i, from 1, is object i or label i." This one function is the way from the one to the other
+unfoldable pub rowOf : Cells → ℕ → Option ℕ
+rowOf c label = onlyIf (isRow callRows label) label
+
+-- a field of a call by its label, and a value for it; what has no row reads as 0
 unfoldable pub ofCall : Cells → ℕ → ℕ → ℤ
-ofCall c l f = read c (call (rowOf c l) f)
+ofCall c l f = elim (rowOf c l) [ some r ↦ read c (call r f) | none ↦ pos 0 ]
 
-unfoldable pub toObject : Cells → ℕ → ℕ → ℤ → Cells
-toObject c o f z = write c (object o f) z
+unfoldable pub toCall : Cells → ℕ → ℕ → ℤ → List Write
+toCall c l f z = elim (rowOf c l) [ some r ↦ (call r f, z) ∷ [] | none ↦ [] ]
 
-unfoldable pub toCall : Cells → ℕ → ℕ → ℤ → Cells
-toCall c l f z = write c (call (rowOf c l) f) z
-
--- values written into the fields of a row from one field on
-unfoldable pub toObjectFrom : Cells → ℕ → ℕ → List ℤ → Cells
-toObjectFrom c o f [] = c
-toObjectFrom c o f (z ∷ zs) = toObjectFrom (toObject c o f z) o (f + 1) zs
-
-unfoldable pub toCallFrom : Cells → ℕ → ℕ → List ℤ → Cells
-toCallFrom c l f [] = c
-toCallFrom c l f (z ∷ zs) = toCallFrom (toCall c l f z) l (f + 1) zs
+-- values for the fields of a row, from one field on
+unfoldable pub rowFrom : (ℕ → Place) → ℕ → List ℤ → List Write
+rowFrom row f [] = []
+rowFrom row f (z ∷ zs) = (row f, z) ∷ rowFrom row (f + 1) zs
 
 -- the first of some values, and 0 for those that are missing
 unfoldable pub padded : ℕ → List ℤ → List ℤ
 padded n zs = take n (zs ++ replicate n (pos 0))
 
 -- the row of a new object: its class, its running label, and its first attributes
-unfoldable pub newObject : Cells → ℕ → ℕ → ℕ → List ℤ → Cells
-newObject c o k l zs = toObjectFrom c o class (pos k ∷ pos l ∷ padded mostAttributes zs)
+unfoldable pub newObject : ℕ → ℕ → ℕ → List ℤ → List Write
+newObject o k l zs = rowFrom (object o) class (pos k ∷ pos l ∷ padded mostAttributes zs)
 
 -- the row of a new call: its stage, caller, callee and method, the number of its arguments, and these in v0 on; line, cleared and value 0
-unfoldable pub newCall : Cells → ℕ → ℕ → ℕ → ℕ → ℕ → List ℤ → Cells
-newCall c l s by to j zs =
-    toCallFrom c l stage (
-    pos s ∷ pos by ∷ pos to ∷ pos j ∷ pos (length zs) ∷ pos 0 ∷ pos 0 ∷ pos 0 ∷ padded mostLocals zs)
+unfoldable pub newCall : ℕ → ℕ → ℕ → ℕ → ℕ → List ℤ → List Write
+newCall r s by to j zs =
+    rowFrom (call r) stage (pos s ∷ pos by ∷ pos to ∷ pos j ∷ pos (length zs) ∷ pos 0 ∷ pos 0 ∷ pos 0 ∷ padded mostLocals zs)

@@ -2,10 +2,12 @@
 -- a number: whether it is an object or a label in use, and whether a reply is in. Assumes nothing.
 use Prim.Native.Nat.{ℕ}
 use mathlib.Core.Bool.{Bool, true, false, _&&_}
+use mathlib.Core.List.{List}
 use mathlib.Core.Option.{Option, none, some}
 use lib.IntN.{ℤ, pos}
+use Rattle.whole.specs.Plain.{onlyIf}
 use Rattle.whole.specs.Whole.{between, eqZ, nat}
-use Rattle.layout.specs.Layout.{Cells, read, objects, calls, ofCall, toCall, stage, caller}
+use Rattle.layout.specs.Layout.{Cells, Write, read, objects, calls, ofCall, toCall, stage, caller}
 
 abbrev pub invoked : ℕ
 invoked = 1
@@ -32,25 +34,38 @@ taken = 7
 abbrev pub nobody : ℤ
 nobody = pos 0
 
--- a number that passed a test, or none
-unfoldable pub onlyIf : Bool → ℕ → Option ℕ
-onlyIf true n = some n
-onlyIf false n = none
+-- how many objects and how many call rows are in use
+unfoldable pub objectsInUse : Cells → ℕ
+objectsInUse c = nat (read c objects)
+
+unfoldable pub rowsInUse : Cells → ℕ
+rowsInUse c = nat (read c calls)
+
+-- a number that is one of the first so many, from 1 on
+unfoldable pub upTo : ℕ → ℤ → Option ℕ
+upTo n z = onlyIf (between (pos 1) (pos n) z) (nat z)
 
 -- an object number in use: 1..objects
 unfoldable pub objectOf : Cells → ℤ → Option ℕ
-objectOf c z = onlyIf (between (pos 1) (read c objects) z) (nat z)
+objectOf c z = upTo (objectsInUse c) z
 
 -- a label in use: 1..calls
 unfoldable pub labelOf : Cells → ℤ → Option ℕ
-labelOf c z = onlyIf (between (pos 1) (read c calls) z) (nat z)
+labelOf c z = upTo (rowsInUse c) z
 
--- a call in a stage
+-- the stage of a label
+unfoldable pub stageOf : Cells → ℕ → ℤ
+stageOf c l = ofCall c l stage
+
+-- a call in a stage, and in one of several from a first to a last
 unfoldable pub inStage : Cells → ℕ → ℕ → Bool
-inStage c l s = eqZ (ofCall c l stage) (pos s)
+inStage c l s = eqZ (stageOf c l) (pos s)
+
+unfoldable pub inStages : Cells → ℕ → ℕ → ℕ → Bool
+inStages c l first last = between (pos first) (pos last) (stageOf c l)
 
 -- every change of a call's stage
-unfoldable pub staged : Cells → ℕ → ℕ → Cells
+unfoldable pub staged : Cells → ℕ → ℕ → List Write
 staged c l s = toCall c l stage (pos s)
 
 -- "of stage 6 whose caller is this object"

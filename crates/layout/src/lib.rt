@@ -1,6 +1,6 @@
 // The cells of a configuration by named places: object numbers and labels, their fields, and whose reply is in.
 ghost use mathlib.Core.Path.{_≡_};
-ghost use Prim.Native.Nat.{_-_};
+ghost use Prim.Native.Nat.{_≤_};
 ghost use lib.IntN.{pos};
 ghost use lib.ListN.{getD};
 ghost use Rattle.whole.specs.Whole as Whole;
@@ -19,16 +19,26 @@ pub enum LabelFound {
     Nothing,
 }
 
+// The row of a label, if it has one.
+pub enum RowFound {
+    At(u32),
+    Nothing,
+}
+
 // Where the rows begin and how wide they are: "Cell 0: objects; cell 1: calls issued. Then 32 object rows of 10", "Then 128 call rows of 16".
 const CALLS: usize = 1;
 
 const FIRST_OBJECT: usize = 2;
 
-const OBJECT_CELLS: usize = 10;
+const OBJECT_ROWS: u32 = 32;
+
+const OBJECT_CELLS: u16 = 10;
 
 const FIRST_CALL: usize = 322;
 
-const CALL_CELLS: usize = 16;
+const CALL_ROWS: u32 = 128;
+
+const CALL_CELLS: u16 = 16;
 
 // Fields of an object row and of a call row; attributes and locals stand from one on.
 pub const ATTRIBUTE: u16 = 2;
@@ -51,38 +61,62 @@ fn cell(cells: &[i32], at: usize) -> i32
     if at < cells.len() { cells[at] } else { 0 }
 }
 
-// How many rows stand before a row that is counted from 1.
-fn before(row: u32) -> usize
-    ensures { λ r. ⌜ r ≡ row - 1 ⌝ }
+// A row, from 1, of so many.
+fn is_row(rows: u32, row: u32) -> bool
+    ensures { λ r. ⌜ r ≡ Layout.isRow rows row ⌝ }
 {
-    if row == 0 { 0 } else { (row - 1) as usize }
+    if 1 <= row { row <= rows } else { false }
+}
+
+// A field of a row, where so many rows of so many cells stand from a first cell on.
+fn field_of(first: usize, rows: u32, width: u16, cells: &[i32], row: u32, field: u16) -> i32
+    requires { ⌜ first ≤ 322 ⌝ }
+    ensures { λ r. ⌜ r ≡ Found.fieldOf first rows width (now (cells .entry)) row field ⌝ }
+{
+    if is_row(rows, row) {
+        if field < width {
+            return cell(
+                cells,
+                first + (row - 1) as usize * width as usize + field as usize,
+            );
+        }
+    }
+    0
 }
 
 // A field of an object.
 pub fn of_object(cells: &[i32], o: ObjectNumber, field: u16) -> i32
     ensures { λ r. ⌜ r ≡ Layout.ofObject (now (cells .entry)) (o .0) field ⌝ }
 {
-    cell(
+    field_of(
+        FIRST_OBJECT,
+        OBJECT_ROWS,
+        OBJECT_CELLS,
         cells,
-        FIRST_OBJECT + before(o.0 as u32) * OBJECT_CELLS + field as usize,
+        o.0 as u32,
+        field,
     )
 }
 
 // The row of a label.
-fn row_of(l: Label) -> u32
-    ensures { λ r. ⌜ r ≡ l .0 ⌝ }
+fn row_of(cells: &[i32], l: Label) -> RowFound
+    ensures { λ r. ⌜ r ≡ Found.asRow (Layout.rowOf (now (cells .entry)) (l .0)) ⌝ }
 {
-    l.0
+    if is_row(CALL_ROWS, l.0) {
+        RowFound::At(l.0)
+    } else {
+        RowFound::Nothing
+    }
 }
 
 // A field of a call.
 pub fn of_call(cells: &[i32], l: Label, field: u16) -> i32
     ensures { λ r. ⌜ r ≡ Layout.ofCall (now (cells .entry)) (l .0) field ⌝ }
 {
-    cell(
-        cells,
-        FIRST_CALL + before(row_of(l)) * CALL_CELLS + field as usize,
-    )
+    match row_of(cells, l) {
+        RowFound::At(row) => field_of(FIRST_CALL, CALL_ROWS, CALL_CELLS, cells, row, field),
+        RowFound::Nothing => 0,
+    }
 }
 
 // A number as a label in use.

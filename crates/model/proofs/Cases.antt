@@ -6,12 +6,8 @@ use mathlib.Core.Path.{refl}
 use lib.ListN.{replicate}
 use Rattle.whole.proofs.Tables.{Row, _is_, Holds}
 use Rattle.terms.specs.Bytes.{Text, bytes}
-use Rattle.model.specs.Judge.{judge}
 use Rattle.model.proofs.Open.{model-open}
-use Rattle.model.proofs.Session.{session-texts, session-with, session, storing}
-
-verdict : Text → List ℕ
-verdict s = judge s .number ∷ judge s .line ∷ []
+use Rattle.model.proofs.Session.{verdict, session-texts, session-with, session, storing}
 
 -- the lines before the code of the session, up to its `attrs=`
 with-attrs : Text → Text
@@ -54,7 +50,7 @@ table =
     ∷ []
 
 holds : Holds table
-unfolding model-open session-texts table verdict with-attrs
+unfolding model-open session-texts table with-attrs
 holds = (
   refl,
   (
@@ -141,5 +137,5 @@ long-table =
     ∷ []
 
 long-holds : Holds long-table
-unfolding model-open verdict again long-methods long-class long-table
+unfolding model-open session-texts again long-methods long-class long-table
 long-holds = (refl, (refl, tt))

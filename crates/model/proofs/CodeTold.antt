@@ -1,6 +1,6 @@
 -- What code lines that were read tell: of each line by itself, and of how all of them open and close blocks. Assumes nothing.
 use Prim.Native.Nat.{ℕ, zero, suc, _+_, _-_, _≤_, _<_}
-use mathlib.Core.Bool.{Bool, true, false, _&&_}
+use mathlib.Core.Bool.{Bool, true, false}
 use mathlib.Core.List.{List, [], _∷_, _++_, map}
 use mathlib.Core.Option.{Option, none, some}
 use mathlib.Core.Path.{_≡_, refl, sym, ap, subst, _∙_}
@@ -9,6 +9,7 @@ use borrow.Author.Tests.{leb-true, eqb-true, eq-eqb}
 use lib.Dec.{eqb}
 use lib.ListN.{length, getD, take, length-map}
 use Rattle.whole.specs.Refusals.{wrongCode, wrongBlocks}
+use Rattle.whole.proofs.Both.{both-left, both-right}
 use Rattle.terms.specs.declared.Limits.{Limits}
 use Rattle.terms.specs.Bytes.{bytes}
 use Rattle.terms.specs.Parsed.{Parsed, got, bad}
@@ -21,7 +22,7 @@ use Rattle.code.specs.Reader.{statement}
 use Rattle.code.specs.Statements.{Code}
 use Rattle.code.specs.Within.{CodeWithin}
 use Rattle.code.proofs.ReadWithin.{gives-statement}
-use Rattle.code.proofs.Stacks.{false-true, all-nil, all-some}
+use Rattle.code.proofs.Stacks.{all-nil, all-some}
 use Rattle.model.specs.Accepted.{AcceptedBlocks}
 use Rattle.model.specs.Bounds.{deepest}
 use Rattle.model.specs.InOrder.{wrong, right}
@@ -65,11 +66,6 @@ module _ (lim : Limits) (classes count : ℕ) where
         go at (bad p) g = tt
         go at (got p c) g = taken-standing at c g (through (shapeOf c) (so .blocks)) refl
 
--- two tests that hold together
-both-hold : (a b : Bool) → a && b ≡ true → (a ≡ true) × (b ≡ true)
-both-hold true b e = (refl, e)
-both-hold false b e = absurd (false-true e)
-
 -- a list of no items
 no-items : {A : Type 0} (xs : List A) → length xs ≡ 0 → xs ≡ []
 no-items [] e = refl
@@ -78,7 +74,7 @@ no-items (x ∷ xs) e = absurd (omega arith)
 -- a line that may stand leaves few blocks open
 may-depth : (last : Bool) (c : Code) (bs : List Block) → mayStand last c bs ≡ true → length bs ≤ deepest
 unfolding mayStand
-may-depth true c bs e = let z : length bs ≡ 0 = eqb-true _ _ (both-hold (isShape Shape.Return (shapeOf c)) _ e .1) in omega arith
+may-depth true c bs e = let z : length bs ≡ 0 = eqb-true _ _ (both-right (isShape Shape.Return (shapeOf c)) _ e) in omega arith
 may-depth false c bs e = leb-true _ _ e
 
 -- a line of that shape
@@ -100,8 +96,8 @@ is-return l e = go l (eqb-true _ _ e)
 may-last : (c : Code) (bs : List Block) → mayStand true c bs ≡ true → (bs ≡ []) × (shapeOf c ≡ Shape.Return)
 unfolding mayStand
 may-last c bs e =
-    let b = both-hold (isShape Shape.Return (shapeOf c)) (eqb (length bs) 0) e in
-    (no-items bs (eqb-true _ _ (b .1)), is-return (shapeOf c) (b .0))
+    let outside = both-right (isShape Shape.Return (shapeOf c)) (eqb (length bs) 0) e in
+    (no-items bs (eqb-true _ _ outside), is-return (shapeOf c) (both-left (isShape Shape.Return (shapeOf c)) _ e))
 
 module _ (lim : Limits) (classes count : ℕ) where
   -- the lines of a method, or some of them

@@ -1,5 +1,6 @@
 -- What the proofs of this crate and of those above it cite.
 mod Cases
+mod TextBounds
 pub mod AcceptedAt
 pub mod AcceptedJudged
 pub mod AcceptedText
@@ -32,8 +33,8 @@ pub mod Open
 pub mod Parts
 pub mod Plain
 pub mod Puts
-pub mod Reading
 pub mod ReadBounds
+pub mod Reading
 pub mod Session
 pub mod SoundEnds
 pub mod TableRows

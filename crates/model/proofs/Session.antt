@@ -1,6 +1,8 @@
 -- "A session, whole": the model's text, cut before and after the code of class 0, so that cases can put another there. Assumes nothing.
-use mathlib.Core.List.{_++_}
+use Prim.Native.Nat.{ℕ}
+use mathlib.Core.List.{List, [], _∷_, _++_}
 use Rattle.terms.specs.Bytes.{Text, bytes}
+use Rattle.model.specs.Judge.{judge}
 
 unfoldable pub session-head : Text
 session-head = bytes "creol=1\nclasses=2\nclass=0\nattrs=2\ngiven=0\nrun=1\nmethods=1\nmethod=0\nparams=0\nlocals=1\n"
@@ -38,7 +40,11 @@ four-classes =
     ++ bytes "class=2\nattrs=0\ngiven=0\nrun=0\nmethods=1\nmethod=0\nparams=0\nlocals=0\nlines=1\ncode=return 0\n"
     ++ bytes "class=3\nattrs=1\ngiven=1\nrun=0\nmethods=0\n"
 
+-- number and line of the verdict on a text
+unfoldable pub verdict : Text → List ℕ
+verdict s = judge s .number ∷ judge s .line ∷ []
+
 -- a proof that computes with these texts says `unfolding session-texts`
 unfoldable pub session-texts : Unit {0}
-unfolding session-head session-code session-tail session-with session storing four-classes
+unfolding verdict session-head session-code session-tail session-with session storing four-classes
 session-texts = tt

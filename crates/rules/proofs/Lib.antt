@@ -1,3 +1,6 @@
--- What the proofs of this crate and of those above it cite.
+-- What the proofs above cite.
+mod Bounds
 mod Cases
+pub mod Chosen
 pub mod Open
+pub mod Scene

@@ -10,7 +10,7 @@ use Rattle.terms.specs.Bytes.{Text, bytes, digit}
 use Rattle.terms.specs.Parsed.{got, bad, word}
 use Rattle.model.specs.Lines.{lines, content}
 use Rattle.rules.specs.declared.Choice.{Choice}
-use Rattle.rules.specs.Step.{Kind, exec, arrive, bind, start, deliver, kindNumber}
+use Rattle.rules.specs.Kinds.{Kind, exec, arrive, bind, start, deliver, kinds, choose}
 
 -- "(at most 4,096 bytes)"
 abbrev pub longestInput : ℕ
@@ -45,10 +45,9 @@ unfoldable pub choiceOf : List Kind → Text → Choice
 choiceOf [] l = noChoice
 choiceOf (k ∷ ks) l = elim (word (kindName k) l 0) [
   | bad at ↦ choiceOf ks l
-  | got at u ↦ elim (digitsAlone (drop at l)) [ none ↦ noChoice | some n ↦ record { kind = pos (kindNumber k); number = pos n } ]
+  | got at u ↦ elim (digitsAlone (drop at l)) [ none ↦ noChoice | some n ↦ choose k n ]
 ]
 
 -- "Input past 4,096 bytes is not read, a last line needs no LF"
 unfoldable pub choicesFrom : Text → List Choice
-choicesFrom input =
-    map (λ l. choiceOf (exec ∷ arrive ∷ bind ∷ start ∷ deliver ∷ []) (content l)) (lines (take longestInput input))
+choicesFrom input = map (λ l. choiceOf kinds (content l)) (lines (take longestInput input))

@@ -1,4 +1,4 @@
--- What the runner reads and writes.
+-- What the runner reads and writes. The modules stand in the order of reading.
 pub mod Choices
-pub mod Runner
 pub mod Shown
+pub mod Runner

@@ -9,7 +9,7 @@ use Rattle.terms.specs.Bytes.{Text, bytes}
 use Rattle.model.specs.Judge.{refusal, model, judged}
 use Rattle.model.specs.Model.{Model}
 use Rattle.rules.specs.declared.Choice.{Choice}
-use Rattle.engine.specs.Start.{fresh}
+use Rattle.cells.specs.Fresh.{fresh}
 use Rattle.engine.specs.Run.{runCells, runAnswers}
 use Rattle.session.specs.Choices.{choicesFrom}
 use Rattle.session.specs.Shown.{shownLine}

@@ -1,5 +1,5 @@
 -- Short expressions and guards, computed: how they group, where a refusal is placed, and what they give. Assumes nothing.
-use mathlib.Core.List.{List, [], _∷_}
+use mathlib.Core.List.{List, [], _∷_, _++_}
 use mathlib.Core.Path.{refl}
 use lib.IntN.{pos, negsuc}
 use lib.ListN.{replicate}
@@ -7,7 +7,7 @@ use Rattle.whole.specs.declared.Operator.the-variants.{Plus, Minus, Times, Less
 use Rattle.whole.specs.declared.Worked.{Worked}
 use Rattle.whole.specs.declared.Worked.the-variants.{Value, OutOfRange}
 use Rattle.whole.proofs.Tables.{Row, _is_, Holds}
-use Rattle.layout.specs.Layout.{Cells, allCells, write, objects, calls, newCall, toCall, cleared}
+use Rattle.layout.specs.Layout.{Cells, allCells, written, objects, calls, newCall, toCall, cleared}
 use Rattle.layout.specs.Stages.{running, replied}
 use Rattle.terms.specs.declared.Variable.the-variants.{Attribute}
 use Rattle.terms.specs.Bytes.{Text, bytes}
@@ -52,7 +52,8 @@ trees-table =
 -- label 1 runs in object 1, not cleared, and v0 holds label 2, whose reply is in for object 1
 cells : Cells
 cells =
-    newCall (newCall (write (write (replicate allCells (pos 0)) objects (pos 1)) calls (pos 2)) 1 running 0 1 0 (pos 2 ∷ [])) 2 replied 1 1 0 []
+    written (replicate allCells (pos 0))
+    ((objects, pos 1) ∷ (calls, pos 2) ∷ (newCall 1 running 0 1 0 (pos 2 ∷ []) ++ newCall 2 replied 1 1 0 []))
 
 here : Cells → Surroundings
 here c = record { cells = c; object = 1; label = 1 }
@@ -73,7 +74,7 @@ values-table =
     ∷ (valued (bytes "2=v0") is got 4 (Value (pos 1)))
     -- "`wait` is true exactly when cleared is 1"
     ∷ (guarded cells (bytes "wait") is got 4 (Value (pos 0)))
-    ∷ (guarded (toCall cells 1 cleared (pos 1)) (bytes "wait") is got 4 (Value (pos 1)))
+    ∷ (guarded (written cells (toCall cells 1 cleared (pos 1))) (bytes "wait") is got 4 (Value (pos 1)))
     -- "`X?` is true as for `get`"
     ∷ (guarded cells (bytes "v0?") is got 3 (Value (pos 1)))
     ∷ (guarded cells (bytes "a0?|wait") is got 8 (Value (pos 0)))

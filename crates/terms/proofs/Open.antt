@@ -11,7 +11,7 @@ use Rattle.layout.proofs.Open.{layout-open}
 
 unfoldable pub terms-open : Unit {0}
 unfolding layout-open Answers.asWord Answers.asNumber Answers.asVariable Answers.asValue Answers.surroundings Answers.asOperator
-    Answers.groupedBy Answers.noOther Bytes.digit Expressions.among Expressions.comparison Expressions.sign Expressions.star
+    Answers.groupedBy Answers.noOther Bytes.told Bytes.digit Expressions.among Expressions.comparison Expressions.sign Expressions.star
     Expressions.startOf Expressions.factorBy Expressions.factor Expressions.product Expressions.sum Expressions.comparing
     Expressions.expression Guards.ampersand Guards.bar Guards.atomStartOf Guards.atomBy Guards.atom Guards.conjunction
     Guards.disjunction Guards.guard Leaves.counting Leaves.decimal Leaves.numbered Leaves.variable Parsed.next Parsed.mapped

@@ -1,6 +1,7 @@
 -- What a byte begins or joins, by the tests that the code makes. Assumes nothing.
 use Prim.Native.Nat.{ℕ, _≤_, _<_}
 use mathlib.Core.Bool.{Bool, true, false}
+use mathlib.Core.List.{List, [], _∷_}
 use mathlib.Core.Option.{none, some}
 use mathlib.Core.Path.{_≡_, refl, sym, ap, _∙_}
 use borrow.Author.Tests.{eq-eqb, ne-eqb, ltb-true, ltb-false}
@@ -13,9 +14,9 @@ use Rattle.terms.specs.declared.AtomStart.the-variants as AtomStart
 use Rattle.terms.specs.declared.Junction.the-variants.{Both, Either}
 use Rattle.terms.specs.declared.Start.{Start}
 use Rattle.terms.specs.declared.Start.the-variants as Start
-use Rattle.terms.specs.Bytes.{Text, byteAt, digit}
-use Rattle.terms.specs.Expressions.{among, star, sign, comparison, startOf}
-use Rattle.terms.specs.Guards.{ampersand, bar, atomStartOf}
+use Rattle.terms.specs.Bytes.{Text, byteAt, told, digit}
+use Rattle.terms.specs.Expressions.{among, star, sign, comparison, starts, startOf}
+use Rattle.terms.specs.Guards.{ampersand, bar, atomStarts, atomStartOf}
 use Rattle.terms.proofs.Bytes.{among-digits}
 use Rattle.terms.proofs.Moving.{past-end}
 
@@ -32,6 +33,16 @@ module _ (first : ℕ) (o : Operator) (second : ℕ) (p : Operator) (b : ℕ) wh
   unfolding among
   among-none n m = rw (ne-eqb b first n, ne-eqb b second m, among)
 
+-- a byte that no row of a table has
+abbrev Apart : {A : Type 0} → ℕ → List (ℕ × A) → Type 0
+Apart b [] = Unit {0}
+Apart b (row ∷ rows) = (b ≡ row .0 → ⊥) × Apart b rows
+
+not-told : {A : Type 0} (b : ℕ) (rows : List (ℕ × A)) (other : A) → Apart b rows → told rows other b ≡ other
+unfolding told
+not-told b [] other n = refl
+not-told b (row ∷ rows) other n = rw (ne-eqb b (row .0) (n .0), told) (not-told b rows other (n .1))
+
 module _ (b : ℕ) where
   pub star-none : (b ≡ 42 → ⊥) → star b ≡ none
   unfolding star
@@ -47,8 +58,7 @@ module _ (b : ℕ) where
 
   pub starts-nothing : digit b ≡ none → (b ≡ 115 → ⊥) → (b ≡ 99 → ⊥) → (b ≡ 40 → ⊥) → (b ≡ 97 → ⊥) → (b ≡ 118 → ⊥) → startOf b ≡ Start.Nothing
   unfolding startOf
-  starts-nothing d s c o a v =
-      rw (d, ne-eqb b 115 s, ne-eqb b 99 c, ne-eqb b 40 o, ne-eqb b 97 a, ne-eqb b 118 v, startOf)
+  starts-nothing d s c o a v = rw (d, startOf) (not-told b starts Start.Nothing (s, (c, (o, (a, (v, tt))))))
 
 -- 0 joins nothing and begins nothing
 pub star-zero : star 0 ≡ none
@@ -69,7 +79,7 @@ start-within s at b e n = go (ltb at (length s)) refl
     go : (t : Bool) → ltb at (length s) ≡ t → at < length s
     go true f = ltb-true at (length s) f
     go false f =
-        absurd (n (sym e ∙ ap startOf (past-end s at (ltb-false at (length s) f)) ∙ (unfold startOf digit in refl)))
+        absurd (n (sym e ∙ ap startOf (past-end s at (ltb-false at (length s) f)) ∙ (unfold startOf told digit in refl)))
 
 -- what joins guards, and what an atom begins with
 module _ (b : ℕ) where
@@ -91,7 +101,7 @@ module _ (b : ℕ) where
 
   pub begins-nothing : (b ≡ 119 → ⊥) → (b ≡ 91 → ⊥) → (b ≡ 40 → ⊥) → (b ≡ 97 → ⊥) → (b ≡ 118 → ⊥) → atomStartOf b ≡ AtomStart.Nothing
   unfolding atomStartOf
-  begins-nothing w t g a v = rw (ne-eqb b 119 w, ne-eqb b 91 t, ne-eqb b 40 g, ne-eqb b 97 a, ne-eqb b 118 v, atomStartOf)
+  begins-nothing w t g a v = not-told b atomStarts AtomStart.Nothing (w, (t, (g, (a, (v, tt)))))
 
 pub ampersand-zero : ampersand 0 ≡ none
 unfolding ampersand
@@ -106,4 +116,4 @@ atom-within s at b e n = go (ltb at (length s)) refl
   where
     go : (t : Bool) → ltb at (length s) ≡ t → at < length s
     go true f = ltb-true at (length s) f
-    go false f = absurd (n (sym e ∙ ap atomStartOf (past-end s at (ltb-false at (length s) f)) ∙ (unfold atomStartOf in refl)))
+    go false f = absurd (n (sym e ∙ ap atomStartOf (past-end s at (ltb-false at (length s) f)) ∙ (unfold atomStartOf told in refl)))

@@ -2,6 +2,7 @@
 use Prim.Native.Nat.{ℕ, zero, suc, _+_}
 use Prim.Native.Char.{code}
 use mathlib.Core.Bool.{true, false}
+use mathlib.Core.List.{List, [], _∷_}
 use mathlib.Core.Option.{Option, none, some}
 use lib.Dec.{eqb}
 use lib.ListN.{length}
@@ -10,7 +11,7 @@ use Rattle.whole.specs.declared.Operator.the-variants.{Plus, Minus, Times, Less
 use Rattle.terms.specs.declared.Start.{Start}
 use Rattle.terms.specs.declared.Start.the-variants as Start
 use Rattle.terms.specs.declared.Variable.{Variable}
-use Rattle.terms.specs.Bytes.{Text, bytes, byteAt, digit}
+use Rattle.terms.specs.Bytes.{Text, bytes, byteAt, told, digit}
 use Rattle.terms.specs.declared.Limits.{Limits}
 use Rattle.terms.specs.Leaves.{decimal, variable}
 use Rattle.terms.specs.Parsed.{Parsed, bad, mapped, word, closed, series}
@@ -48,23 +49,12 @@ unfoldable pub star : ℕ → Option Operator
 star b = elim (eqb b (code "*")) [ true ↦ some Times | false ↦ none ]
 
 -- "A factor is a decimal 0..2147483647, a variable, `self`, `caller`, or an expression in round brackets": its first byte tells which
+abbrev pub starts : List (ℕ × Start)
+starts =
+    (code "s", Start.Itself) ∷ (code "c", Start.Caller) ∷ (code "(", Start.Opening) ∷ (code "a", Start.Variable) ∷ (code "v", Start.Variable) ∷ []
+
 unfoldable pub startOf : ℕ → Start
-startOf b = elim (digit b) [
-  | some d ↦ Start.Decimal
-  | none ↦ elim (eqb b (code "s")) [
-    | true ↦ Start.Itself
-    | false ↦ elim (eqb b (code "c")) [
-      | true ↦ Start.Caller
-      | false ↦ elim (eqb b (code "(")) [
-        | true ↦ Start.Opening
-        | false ↦ elim (eqb b (code "a")) [
-          | true ↦ Start.Variable
-          | false ↦ elim (eqb b (code "v")) [ true ↦ Start.Variable | false ↦ Start.Nothing ]
-        ]
-      ]
-    ]
-  ]
-]
+startOf b = elim (digit b) [ some d ↦ Start.Decimal | none ↦ told starts Start.Nothing b ]
 
 module _ {A : Type 0} (R : Reading A) (lim : Limits) (s : Text) where
   -- a factor by its start, where `inside` reads what stands at an opening bracket

@@ -2,6 +2,7 @@
 use Prim.Native.Nat.{ℕ, zero, suc, _+_}
 use Prim.Native.Char.{code}
 use mathlib.Core.Bool.{true, false}
+use mathlib.Core.List.{List, [], _∷_}
 use mathlib.Core.Option.{Option, none, some}
 use lib.Dec.{eqb}
 use lib.ListN.{length}
@@ -10,7 +11,7 @@ use Rattle.terms.specs.declared.AtomStart.the-variants as AtomStart
 use Rattle.terms.specs.declared.Junction.{Junction}
 use Rattle.terms.specs.declared.Junction.the-variants.{Both, Either}
 use Rattle.terms.specs.declared.Variable.{Variable}
-use Rattle.terms.specs.Bytes.{Text, bytes, byteAt}
+use Rattle.terms.specs.Bytes.{Text, bytes, byteAt, told}
 use Rattle.terms.specs.Expressions.{Reading, expression}
 use Rattle.terms.specs.declared.Limits.{Limits}
 use Rattle.terms.specs.Leaves.{variable}
@@ -30,20 +31,13 @@ unfoldable pub bar : ℕ → Option Junction
 bar b = elim (eqb b (code "|")) [ true ↦ some Either | false ↦ none ]
 
 -- "an atom is `wait`, a variable followed by `?`, an expression in square brackets, or a guard in round brackets": its first byte tells
+abbrev pub atomStarts : List (ℕ × AtomStart)
+atomStarts =
+    (code "w", AtomStart.Wait) ∷ (code "[", AtomStart.Test) ∷ (code "(", AtomStart.Guard) ∷ (code "a", AtomStart.Reply)
+    ∷ (code "v", AtomStart.Reply) ∷ []
+
 unfoldable pub atomStartOf : ℕ → AtomStart
-atomStartOf b = elim (eqb b (code "w")) [
-  | true ↦ AtomStart.Wait
-  | false ↦ elim (eqb b (code "[")) [
-    | true ↦ AtomStart.Test
-    | false ↦ elim (eqb b (code "(")) [
-      | true ↦ AtomStart.Guard
-      | false ↦ elim (eqb b (code "a")) [
-        | true ↦ AtomStart.Reply
-        | false ↦ elim (eqb b (code "v")) [ true ↦ AtomStart.Reply | false ↦ AtomStart.Nothing ]
-      ]
-    ]
-  ]
-]
+atomStartOf = told atomStarts AtomStart.Nothing
 
 module _ {A G : Type 0} (R : Reading A) (Q : GuardReading A G) (lim : Limits) (s : Text) where
   -- an atom by its start, where `test` and `inside` read what stands at an opening bracket, square or round

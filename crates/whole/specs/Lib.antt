@@ -1,6 +1,6 @@
--- The definitions of whole numbers, and the table of the numbers given back.
-pub mod Lists
+-- Whole numbers, and the table of the numbers given back. The modules stand in the order of reading; Vocabulary is the code's.
 pub mod Plain
-pub mod Refusals
+pub mod Lists
 pub mod Whole
+pub mod Refusals
 pub mod Vocabulary

@@ -25,6 +25,11 @@ abbrev pub whenever : Bool → Bool → Bool
 whenever true b = b
 whenever false b = true
 
+-- a number that passed a test, or none
+unfoldable pub onlyIf : Bool → ℕ → Option ℕ
+onlyIf true n = some n
+onlyIf false n = none
+
 -- what may be missing, used where it is there: `do` joins several
 abbrev pub _>>=_ : {A B : Type 0} → Option A → (A → Option B) → Option B
 _>>=_ none k = none

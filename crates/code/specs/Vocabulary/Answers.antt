@@ -1,4 +1,4 @@
--- What the definitions read of a code value, as the structs and enums that the code gives. Assumes nothing.
+-- Vocabulary of the code: what the definitions read of a code value, as the structs and enums that the code gives. Assumes nothing.
 use Prim.Native.Nat.{ℕ, _+_}
 use mathlib.Core.Bool.{true, false}
 use mathlib.Core.List.{List, [], _∷_}

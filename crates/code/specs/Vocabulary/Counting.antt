@@ -1,4 +1,4 @@
--- One count of open blocks, by which a partner is found. Assumes nothing.
+-- Vocabulary of the code: one count of open blocks, by which a partner is found. Assumes nothing.
 use Prim.Native.Nat.{ℕ, zero, suc, _+_}
 use mathlib.Core.Bool.{Bool, true, false}
 use mathlib.Core.Option.{Option, none, some}

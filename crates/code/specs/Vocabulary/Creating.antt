@@ -1,4 +1,4 @@
--- The class that a `new` names and how many arguments it has, by the statement and by what the code read of it. Assumes nothing.
+-- Vocabulary of the code: the class that a `new` names and how many arguments it has, by the statement and by what the code read of it. Assumes nothing.
 use Prim.Native.Nat.{ℕ}
 use mathlib.Core.Option.{Option, none, some}
 use lib.ListN.{length}

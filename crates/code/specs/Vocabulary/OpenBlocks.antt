@@ -1,4 +1,4 @@
--- The open blocks of a method as one number: a digit from 1 to 3 for each, the innermost lowest, base 4. No digit is 0, so that the number
+-- Vocabulary of the code: the open blocks of a method as one number: a digit from 1 to 3 for each, the innermost lowest, base 4. No digit is 0, so that the number
 -- tells how many blocks are open. Assumes nothing.
 use Prim.Native.Nat.{ℕ, _+_, _*_}
 use mathlib.Core.List.{List, [], _∷_}

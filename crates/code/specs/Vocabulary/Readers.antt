@@ -1,4 +1,4 @@
--- What each part of the statement reader is to give: the grammar at the reading *values*, as the code's structs. Assumes nothing.
+-- Vocabulary of the code: what each part of the statement reader is to give: the grammar at the reading *values*, as the code's structs. Assumes nothing.
 use Prim.Native.Nat.{ℕ}
 use Rattle.whole.specs.declared.Worked.{Worked}
 use Rattle.layout.specs.Layout.{Cells}

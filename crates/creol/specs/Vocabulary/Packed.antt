@@ -1,4 +1,4 @@
--- An answer as one number. Assumes nothing.
+-- Vocabulary of the code: an answer as one number. Assumes nothing.
 use Prim.Native.Nat.{ℕ, _+_, _*_, _^_}
 use Rattle.model.specs.declared.Verdict.{Verdict}
 

@@ -5,7 +5,7 @@ use lib.IntN.{pos}
 use mathlib.Core.Bool.{Bool, _&&_}
 use mathlib.Core.Path.{_≡_, sym, ap, _∙_}
 use Rattle.layout.specs.Layout.{ofCall, caller}
-use Rattle.layout.specs.Stages.{replied, inStage, isReply}
+use Rattle.layout.specs.Stages.{replied, stageOf, inStage, isReply}
 use Rattle.whole.proofs.Ranges.{handed}
 use Rattle.whole.specs.Whole.{eqZ}
 use Rattle.layout.proofs.is_reply.Statement.{statement}
@@ -14,7 +14,7 @@ use Rattle.layout.proofs.is_reply.Tie as tie
 -- what the first test says of the stage
 stage-test : (c : tie.After-is-number) (b : Bool) → c .is-number .result ≡ b
     → inStage (now (c .before .before .args .cells)) (c .before .before .args .l .0) replied ≡ b
-unfolding inStage
+unfolding inStage stageOf
 stage-test c b e = sym (c .is-number .ensures ∙ ap (λ z. eqZ z (pos replied)) (handed _ _ (c .before .of-call .ok) (c .before .of-call .ensures))) ∙ e
 
 of-call-requires : tie.Need-of-call-requires

@@ -7,7 +7,7 @@ use mathlib.Core.Path.{_≡_, sym, ap₂, _∙_}
 use mir.Syntax.{w32}
 use mir.ValLaws.{toZ-ofZ}
 use Rattle.layout.proofs.Numbers.{counted, label-in-use, label-not-in-use}
-use Rattle.layout.specs.Layout.{read, cellOf, calls}
+use Rattle.layout.specs.Layout.{read, stands, cellOf, calls}
 use Rattle.whole.proofs.Ranges.{handed}
 use Rattle.whole.specs.Whole.{between}
 use Rattle.layout.proofs.label_of.Statement.{statement}
@@ -16,7 +16,7 @@ use Rattle.layout.proofs.label_of.Tie as tie
 -- what the test says of the number and the calls issued
 test : (c : tie.After-between) (b : Bool) → c .between .result ≡ b
     → between (pos 1) (read (now (c .before .before .args .cells)) calls) (c .before .before .args .z) ≡ b
-unfolding read cellOf
+unfolding read stands cellOf
 test c b e =
     let s = c .before .before in
     sym (c .between .ensures ∙ ap₂ (between (pos 1)) (handed _ _ (c .before .cell .ok) (c .before .cell .ensures)) (toZ-ofZ w32 _ (s .fits .z))) ∙ e

@@ -7,7 +7,8 @@ use mir.Syntax.{w32}
 use mir.ValLaws.{toZ-ofZ}
 use Rattle.layout.proofs.Numbers.{no-label, a-label}
 use Rattle.layout.specs.Vocabulary.Found.{asLabel}
-use Rattle.layout.specs.Stages.{labelOf, onlyIf}
+use Rattle.whole.specs.Plain.{onlyIf}
+use Rattle.layout.specs.Stages.{labelOf}
 use Rattle.layout.proofs.reply_for.Statement.{statement}
 use Rattle.layout.proofs.reply_for.Tie as tie
 

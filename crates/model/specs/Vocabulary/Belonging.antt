@@ -1,4 +1,4 @@
--- Which table belongs to which text: what its rows tell of each class, method, code line and `new`. Assumes nothing.
+-- Vocabulary of the code: which table belongs to which text: what its rows tell of each class, method, code line and `new`. Assumes nothing.
 use Prim.Native.Nat.{ℕ, _+_, _≤_}
 use mathlib.Core.Path.{_≡_}
 use lib.ListN.{length, take, drop}

@@ -1,4 +1,4 @@
--- The `new`s of a text, by the rows of its code lines. Assumes nothing.
+-- Vocabulary of the code: the `new`s of a text, by the rows of its code lines. Assumes nothing.
 use Prim.Native.Nat.{ℕ, zero, suc, _+_, _*_, _/_, _%_}
 use mathlib.Core.Bool.{Bool, true}
 use mathlib.Core.List.{List, [], _∷_, _++_}

@@ -1,4 +1,4 @@
--- How the table is filled while the text is read, and what it tells of a state of the automaton. Assumes nothing.
+-- Vocabulary of the code: how the table is filled while the text is read, and what it tells of a state of the automaton. Assumes nothing.
 use Prim.Native.Nat.{ℕ, _+_, _-_, _≤_, _<_}
 use mathlib.Core.Bool.{true, false}
 use mathlib.Core.List.{[]}

@@ -1,4 +1,4 @@
--- The table of a text, by which later parts find its lines: a list of numbers, in rows of four. Assumes nothing.
+-- Vocabulary of the code: the table of a text, by which later parts find its lines: a list of numbers, in rows of four. Assumes nothing.
 use Prim.Native.Nat.{ℕ, suc, _+_, _*_}
 use mathlib.Core.List.{List, [], _∷_}
 use lib.ListN.{getD, set}

@@ -1,4 +1,4 @@
--- What was read, as one number, and what it was read in. Assumes nothing.
+-- Vocabulary of the code: what was read, as one number, and what it was read in. Assumes nothing.
 use Prim.Native.Nat.{ℕ, _+_, _*_, _^_, min}
 use lib.IntN.{ℤ}
 use mir.Syntax.{w32}

@@ -1,4 +1,4 @@
--- What the definitions read, as the enums that the code gives. Assumes nothing.
+-- Vocabulary of the code: what the definitions read, as the enums that the code gives. Assumes nothing.
 use Prim.Native.Nat.{ℕ}
 use mathlib.Core.Option.{Option, none, some}
 use Rattle.whole.specs.declared.Operator.{Operator}

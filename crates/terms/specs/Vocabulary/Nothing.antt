@@ -1,4 +1,4 @@
--- The reading *nothing*: acceptance alone. Assumes nothing.
+-- Vocabulary of the code: the reading *nothing*: acceptance alone. Assumes nothing.
 use Rattle.terms.specs.Expressions.{Reading}
 use Rattle.terms.specs.Guards.{GuardReading}
 

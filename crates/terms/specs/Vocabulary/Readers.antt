@@ -1,4 +1,4 @@
--- What each reader of the code is to give: the grammar at the reading *values*, as the code's enum. Assumes nothing.
+-- Vocabulary of the code: what each reader of the code is to give: the grammar at the reading *values*, as the code's enum. Assumes nothing.
 use Prim.Native.Char.{code}
 use Prim.Native.Nat.{ℕ}
 use lib.ListN.{length}

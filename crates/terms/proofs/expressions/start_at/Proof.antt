@@ -5,7 +5,7 @@ use native.Mathlib.Omega.{arith}
 use mathlib.Core.Option.{none}
 use mathlib.Core.Path.{_≡_, sym, ap, _∙_}
 use Rattle.terms.specs.declared.Start.the-variants as Start
-use Rattle.terms.specs.Bytes.{byteAt, digit}
+use Rattle.terms.specs.Bytes.{byteAt, told, digit}
 use Rattle.terms.proofs.Bytes.{below-digits, above-digits}
 use Rattle.terms.proofs.Starts.{starts-decimal, starts-nothing}
 use Rattle.terms.specs.Expressions.{startOf}
@@ -23,19 +23,19 @@ byte-at-requires : tie.Need-byte-at-requires
 byte-at-requires c κs = search needs
 
 returns : tie.Need-returns
-unfolding startOf digit
+unfolding startOf told digit
 returns c = sym (ap startOf (sym (c .before .byte-at .ensures) ∙ c .match .keys1))
 
 returns-2 : tie.Need-returns-2
-unfolding startOf digit
+unfolding startOf told digit
 returns-2 c = sym (ap startOf (sym (c .before .byte-at .ensures) ∙ c .match .keys2))
 
 returns-3 : tie.Need-returns-3
-unfolding startOf digit
+unfolding startOf told digit
 returns-3 c = sym (ap startOf (sym (c .before .byte-at .ensures) ∙ c .match .keys3))
 
 returns-4 : tie.Need-returns-4
-unfolding startOf digit
+unfolding startOf told digit
 returns-4 c = ⊎-elim (λ e. sym (ap startOf (sym (c .before .byte-at .ensures) ∙ e))) (λ e. sym (ap startOf (sym (c .before .byte-at .ensures) ∙ e))) (c .match .keys4)
 
 returns-5 : tie.Need-returns-5

@@ -3,6 +3,7 @@ use borrow.Author.Needs.{needs}
 use mathlib.Core.Logic.{⊎-elim, inl, inr}
 use mathlib.Core.Path.{sym, ap, _∙_}
 use Rattle.terms.proofs.Starts.{begins-nothing}
+use Rattle.terms.specs.Bytes.{told}
 use Rattle.terms.specs.Guards.{atomStartOf}
 use Rattle.terms.proofs.guards.atom_start_at.Statement.{statement}
 use Rattle.terms.proofs.guards.atom_start_at.Tie as tie
@@ -11,19 +12,19 @@ byte-at-requires : tie.Need-byte-at-requires
 byte-at-requires c κs = search needs
 
 returns : tie.Need-returns
-unfolding atomStartOf
+unfolding atomStartOf told
 returns c = sym (ap atomStartOf (sym (c .before .byte-at .ensures) ∙ c .match .keys1))
 
 returns-2 : tie.Need-returns-2
-unfolding atomStartOf
+unfolding atomStartOf told
 returns-2 c = sym (ap atomStartOf (sym (c .before .byte-at .ensures) ∙ c .match .keys2))
 
 returns-3 : tie.Need-returns-3
-unfolding atomStartOf
+unfolding atomStartOf told
 returns-3 c = sym (ap atomStartOf (sym (c .before .byte-at .ensures) ∙ c .match .keys3))
 
 returns-4 : tie.Need-returns-4
-unfolding atomStartOf
+unfolding atomStartOf told
 returns-4 c = ⊎-elim (λ e. sym (ap atomStartOf (sym (c .before .byte-at .ensures) ∙ e))) (λ e. sym (ap atomStartOf (sym (c .before .byte-at .ensures) ∙ e))) (c .match .keys4)
 
 returns-5 : tie.Need-returns-5

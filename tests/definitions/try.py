@@ -1,0 +1,85 @@
+#!/usr/bin/env python3
+"""Tries wrong definitions: each must fall to a row of a table of cases.
+
+    tests/definitions/try.py [WORD..]
+
+tries those of wrong.txt, or those whose first line has one of the words. It works in a copy of the repository from which
+the code of crate `model` and its proofs are taken out, so that a definition stands against its tables of cases alone, and
+says for each wrong definition which table refuses it. Exit status 0: every one fell. It is no part of the gate.
+"""
+import pathlib
+import re
+import shutil
+import subprocess
+import sys
+import tempfile
+
+HERE = pathlib.Path(__file__).resolve().parent
+ROOT = HERE.parent.parent
+KEPT = ("Cases", "TextBounds", "Open", "Session")
+
+
+def blocks():
+    """The wrong definitions: a name, the crate, the file, and what is put for what."""
+    for text in (HERE / "wrong.txt").read_text(encoding="utf-8").split("\n\n"):
+        lines = [line for line in text.splitlines() if line and not line.startswith("#")]
+        if lines:
+            fields = dict(line.split(": ", 1) for line in lines[1:])
+            yield lines[0], fields["crate"], fields["file"], fields["old"], fields["new"]
+
+
+def copied(to):
+    """A copy of the repository's crates with the code of `model` taken out."""
+    shutil.copytree(ROOT / "crates", to / "crates")
+    shutil.copy(ROOT / "crates.txt", to / "crates.txt")
+    if (ROOT / "target").is_dir():
+        shutil.copytree(ROOT / "target", to / "target")
+    model = to / "crates" / "model"
+    for path in (model / "src").glob("*.rt"):
+        if path.name != "lib.rt":
+            path.unlink()
+    library = model / "src" / "lib.rt"
+    library.write_text(re.sub(r"^pub mod .*\n", "", library.read_text(encoding="utf-8"), flags=re.M), encoding="utf-8")
+    for path in (model / "proofs").iterdir():
+        if path.is_dir():
+            shutil.rmtree(path)
+        elif path.stem not in KEPT:
+            path.unlink()
+    (model / "proofs" / "Lib.antt").write_text("".join(f"pub mod {name}\n" for name in KEPT), encoding="utf-8")
+
+
+def checked(root, crate):
+    """Whether a crate is proved, and what was refused: the tables of cases, or the definition itself, which then misfits."""
+    run = subprocess.run(["rt", "dev", crate], cwd=root, capture_output=True, text=True)
+    said = re.findall(r"/(specs|proofs)/([\w/]+)\.antt:\d+:\d+: error: `?([\w-]+)`?", run.stdout + run.stderr)
+    if any(folder == "specs" for folder, _, _ in said):
+        sys.exit(f"{crate}: a definition is refused by itself, which shows nothing: {said[0]}")
+    return run.returncode == 0, [f"{file}, {name}" for _, file, name in said]
+
+
+def main(words):
+    wrong = [block for block in blocks() if not words or any(word in block[0] for word in words)]
+    standing = 0
+    with tempfile.TemporaryDirectory() as folder:
+        root = pathlib.Path(folder)
+        copied(root)
+        for crate in sorted({block[1] for block in wrong}):
+            proved, said = checked(root, crate)
+            if not proved:
+                sys.exit(f"{crate} is not proved as it stands: {said}")
+        for name, crate, file, old, new in wrong:
+            path = root / "crates" / crate / file
+            before = path.read_text(encoding="utf-8")
+            if before.count(old) != 1:
+                sys.exit(f"{name}: {file} has `{old}` {before.count(old)} times")
+            path.write_text(before.replace(old, new), encoding="utf-8")
+            proved, said = checked(root, crate)
+            path.write_text(before, encoding="utf-8")
+            standing += proved
+            print(("STANDS  " if proved else "falls   ") + name + ("" if proved else f"  ({'; '.join(said[:3])})"), flush=True)
+    print(f"{len(wrong) - standing} of {len(wrong)} wrong definitions fell")
+    return 1 if standing else 0
+
+
+if __name__ == "__main__":
+    sys.exit(main(sys.argv[1:]))
