@@ -24,8 +24,10 @@ def blocks():
     for text in (HERE / "wrong.txt").read_text(encoding="utf-8").split("\n\n"):
         lines = [line for line in text.splitlines() if line and not line.startswith("#")]
         if lines:
-            fields = dict(line.split(": ", 1) for line in lines[1:])
-            yield lines[0], fields["crate"], fields["file"], fields["old"], fields["new"]
+            fields = [line.split(": ", 1) for line in lines[1:]]
+            one = dict(fields)
+            put = [[value for name, value in fields if name == said] for said in ("old", "new")]
+            yield lines[0], one["crate"], one["file"], list(zip(*put))
 
 
 def copied(to):
@@ -67,12 +69,14 @@ def main(words):
             proved, said = checked(root, crate)
             if not proved:
                 sys.exit(f"{crate} is not proved as it stands: {said}")
-        for name, crate, file, old, new in wrong:
+        for name, crate, file, put in wrong:
             path = root / "crates" / crate / file
-            before = path.read_text(encoding="utf-8")
-            if before.count(old) != 1:
-                sys.exit(f"{name}: {file} has `{old}` {before.count(old)} times")
-            path.write_text(before.replace(old, new), encoding="utf-8")
+            before = after = path.read_text(encoding="utf-8")
+            for old, new in put:
+                if after.count(old) != 1:
+                    sys.exit(f"{name}: {file} has `{old}` {after.count(old)} times")
+                after = after.replace(old, new)
+            path.write_text(after, encoding="utf-8")
             proved, said = checked(root, crate)
             path.write_text(before, encoding="utf-8")
             standing += proved

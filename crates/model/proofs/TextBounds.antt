@@ -8,7 +8,7 @@ use lib.ListN.{replicate}
 use Rattle.whole.proofs.Tables.{Row, _is_, Holds}
 use Rattle.terms.specs.Bytes.{Text, bytes}
 use Rattle.model.proofs.Open.{model-open}
-use Rattle.model.proofs.Session.{verdict, session-texts}
+use Rattle.model.proofs.Session.{verdict, session-texts, four-classes}
 
 -- lines from a number on, of which one is put anew
 changed : ℕ → ℕ → Text → List Text → Text
@@ -80,6 +80,8 @@ first-method-table =
     -- "`method=` (index from 0)". "Where run is 1, method 0 has params 0."
     (verdict (one-class 8 (bytes "method=1")) is 4 ∷ 8 ∷ [])
     ∷ (verdict (one-class 9 (bytes "params=1")) is 4 ∷ 9 ∷ [])
+    -- a later method of such a class may have some
+    ∷ (verdict four-classes is 0 ∷ 0 ∷ [])
     -- "`locals=` params..8"
     ∷ (verdict (one-class 10 (bytes "locals=0")) is 0 ∷ 0 ∷ [])
     ∷ (verdict (one-class 10 (bytes "locals=8")) is 0 ∷ 0 ∷ [])
@@ -99,7 +101,7 @@ first-method-table =
 
 first-method : Holds first-method-table
 unfolding model-open bounded first-method-table
-first-method = (refl, (refl, (refl, (refl, (refl, (refl, (refl, (refl, (refl, (refl, (refl, (refl, (refl, tt)))))))))))))
+first-method = (refl, (refl, (refl, (refl, (refl, (refl, (refl, (refl, (refl, (refl, (refl, (refl, (refl, (refl, tt))))))))))))))
 
 -- a later class, and a later method
 second-class-table : List (Row (List ℕ))
