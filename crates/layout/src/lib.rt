@@ -19,6 +19,12 @@ pub enum LabelFound {
     Nothing,
 }
 
+// A number that is an object's in use, or none.
+pub enum ObjectFound {
+    At(ObjectNumber),
+    Nothing,
+}
+
 // The row of a label, if it has one.
 pub enum RowFound {
     At(u32),
@@ -132,6 +138,18 @@ pub fn of_call(cells: &[i32], l: Label, field: u16) -> i32
     ensures { λ r. ⌜ r ≡ Layout.ofCall (now (cells .entry)) (l .0) field ⌝ }
 {
     cell(cells, call_cell(cells, l, field))
+}
+
+// A number as an object's in use, among so few that a byte holds them.
+pub fn object_of(cells: &[i32], z: i32) -> ObjectFound
+    requires { ⌜ Stages.objectsInUse (now cells) ≤ 255 ⌝ }
+    ensures { λ r. ⌜ r ≡ Found.asObject (Stages.objectOf (now (cells .entry)) z) ⌝ }
+{
+    if whole::between(1, cell(cells, CellFound::At(OBJECTS)), z) {
+        ObjectFound::At(ObjectNumber(z as u8))
+    } else {
+        ObjectFound::Nothing
+    }
 }
 
 // A number as a label in use.

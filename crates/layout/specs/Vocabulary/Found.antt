@@ -10,6 +10,8 @@ use Rattle.layout.specs.declared.CellFound.{CellFound}
 use Rattle.layout.specs.declared.CellFound.the-variants as Cell
 use Rattle.layout.specs.declared.LabelFound.{LabelFound}
 use Rattle.layout.specs.declared.LabelFound.the-variants as Label
+use Rattle.layout.specs.declared.ObjectFound.{ObjectFound}
+use Rattle.layout.specs.declared.ObjectFound.the-variants as Object
 use Rattle.layout.specs.declared.RowFound.{RowFound}
 use Rattle.layout.specs.declared.RowFound.the-variants as Row
 use Rattle.layout.specs.Layout.{Cells, Place, call, isRow, stands, cellOf, rowOf}
@@ -17,6 +19,10 @@ use Rattle.layout.specs.Layout.{Cells, Place, call, isRow, stands, cellO
 unfoldable pub asLabel : Option ℕ → LabelFound
 asLabel none = Label.Nothing
 asLabel (some l) = Label.At (record { 0 = l })
+
+unfoldable pub asObject : Option ℕ → ObjectFound
+asObject none = Object.Nothing
+asObject (some o) = Object.At (record { 0 = o })
 
 unfoldable pub asRow : Option ℕ → RowFound
 asRow none = Row.Nothing
