@@ -1,6 +1,7 @@
 -- Vocabulary of the code: what the definitions may find, as its enums, and a cell that was found. Assumes nothing.
 use Prim.Native.Nat.{ℕ, _+_, _-_, _*_}
 use mathlib.Core.Bool.{_&&_}
+use mathlib.Core.List.{List, [], _∷_}
 use mathlib.Core.Option.{Option, none, some}
 use lib.Dec.{ltb}
 use lib.IntN.{ℤ, pos}
@@ -51,3 +52,8 @@ heldAt c (Cell.At i) = getD c i (pos 0)
 unfoldable pub putAt : Cells → CellFound → ℤ → Cells
 putAt c Cell.Nothing z = c
 putAt c (Cell.At i) z = set c i z
+
+-- values put in the fields of a row, from one field on
+unfoldable pub rowTo : ℕ → ℕ → ℕ → Cells → ℕ → ℕ → List ℤ → Cells
+rowTo first rows width c r f [] = c
+rowTo first rows width c r f (z ∷ zs) = rowTo first rows width (putAt c (asCell (fieldCell first rows width r f)) z) r (f + 1) zs
