@@ -1,12 +1,12 @@
 // The cells of a configuration by named places: object numbers and labels, their fields, and whose reply is in.
 ghost use mathlib.Core.Path.{_≡_};
 ghost use Prim.Native.Nat.{_≤_};
-ghost use lib.IntN.{pos};
-ghost use lib.ListN.{getD};
 ghost use Rattle.whole.specs.Whole as Whole;
 ghost use Rattle.layout.specs.Layout as Layout;
 ghost use Rattle.layout.specs.Stages as Stages;
 ghost use Rattle.layout.specs.Vocabulary.Found as Found;
+
+pub mod writers;
 
 // "Object numbers and labels are counted apart, and neither stands in for the other." Each is made from a cell only after its test.
 pub struct ObjectNumber(pub u8);
@@ -19,13 +19,27 @@ pub enum LabelFound {
     Nothing,
 }
 
+// A number that is an object's in use, or none.
+pub enum ObjectFound {
+    At(ObjectNumber),
+    Nothing,
+}
+
 // The row of a label, if it has one.
 pub enum RowFound {
     At(u32),
     Nothing,
 }
 
+// The cell of a place, if it stands.
+pub enum CellFound {
+    At(usize),
+    Nothing,
+}
+
 // Where the rows begin and how wide they are: "Cell 0: objects; cell 1: calls issued. Then 32 object rows of 10", "Then 128 call rows of 16".
+const OBJECTS: usize = 0;
+
 const CALLS: usize = 1;
 
 const FIRST_OBJECT: usize = 2;
@@ -54,11 +68,14 @@ pub const LOCAL: u16 = 8;
 // A stage: "6 reply in".
 const REPLIED: u32 = 6;
 
-// What stands in a cell; one that is not there reads as 0.
-fn cell(cells: &[i32], at: usize) -> i32
-    ensures { λ r. ⌜ r ≡ getD (now (cells .entry)) at (pos 0) ⌝ }
+// What stands in a cell that was found; one that is not there reads as 0.
+fn cell(cells: &[i32], found: CellFound) -> i32
+    ensures { λ r. ⌜ r ≡ Found.heldAt (now (cells .entry)) found ⌝ }
 {
-    if at < cells.len() { cells[at] } else { 0 }
+    match found {
+        CellFound::Nothing => 0,
+        CellFound::At(at) => { if at < cells.len() { cells[at] } else { 0 } }
+    }
 }
 
 // A row, from 1, of so many.
@@ -68,34 +85,31 @@ fn is_row(rows: u32, row: u32) -> bool
     if 1 <= row { row <= rows } else { false }
 }
 
-// A field of a row, where so many rows of so many cells stand from a first cell on.
-fn field_of(first: usize, rows: u32, width: u16, cells: &[i32], row: u32, field: u16) -> i32
+// The cell of a field in a row, where so many rows of so many cells stand from a first cell on.
+fn field_cell(first: usize, rows: u32, width: u16, row: u32, field: u16) -> CellFound
     requires { ⌜ first ≤ 322 ⌝ }
-    ensures { λ r. ⌜ r ≡ Found.fieldOf first rows width (now (cells .entry)) row field ⌝ }
+    ensures { λ r. ⌜ r ≡ Found.asCell (Found.fieldCell first rows width row field) ⌝ }
 {
     if is_row(rows, row) {
         if field < width {
-            return cell(
-                cells,
-                first + (row - 1) as usize * width as usize + field as usize,
-            );
+            return CellFound::At(first + (row - 1) as usize * width as usize + field as usize);
         }
     }
-    0
+    CellFound::Nothing
+}
+
+// The cell of a field of an object.
+fn object_cell(o: ObjectNumber, field: u16) -> CellFound
+    ensures { λ r. ⌜ r ≡ Found.asCell (Found.placed (Layout.object (o .0) field)) ⌝ }
+{
+    field_cell(FIRST_OBJECT, OBJECT_ROWS, OBJECT_CELLS, o.0 as u32, field)
 }
 
 // A field of an object.
 pub fn of_object(cells: &[i32], o: ObjectNumber, field: u16) -> i32
     ensures { λ r. ⌜ r ≡ Layout.ofObject (now (cells .entry)) (o .0) field ⌝ }
 {
-    field_of(
-        FIRST_OBJECT,
-        OBJECT_ROWS,
-        OBJECT_CELLS,
-        cells,
-        o.0 as u32,
-        field,
-    )
+    cell(cells, object_cell(o, field))
 }
 
 // The row of a label.
@@ -109,13 +123,32 @@ fn row_of(cells: &[i32], l: Label) -> RowFound
     }
 }
 
+// The cell of a field of a call.
+fn call_cell(cells: &[i32], l: Label, field: u16) -> CellFound
+    ensures { λ r. ⌜ r ≡ Found.asCell (Found.callPlaced (now (cells .entry)) (l .0) field) ⌝ }
+{
+    match row_of(cells, l) {
+        RowFound::At(row) => field_cell(FIRST_CALL, CALL_ROWS, CALL_CELLS, row, field),
+        RowFound::Nothing => CellFound::Nothing,
+    }
+}
+
 // A field of a call.
 pub fn of_call(cells: &[i32], l: Label, field: u16) -> i32
     ensures { λ r. ⌜ r ≡ Layout.ofCall (now (cells .entry)) (l .0) field ⌝ }
 {
-    match row_of(cells, l) {
-        RowFound::At(row) => field_of(FIRST_CALL, CALL_ROWS, CALL_CELLS, cells, row, field),
-        RowFound::Nothing => 0,
+    cell(cells, call_cell(cells, l, field))
+}
+
+// A number as an object's in use, among so few that a byte holds them.
+pub fn object_of(cells: &[i32], z: i32) -> ObjectFound
+    requires { ⌜ Stages.objectsInUse (now cells) ≤ 255 ⌝ }
+    ensures { λ r. ⌜ r ≡ Found.asObject (Stages.objectOf (now (cells .entry)) z) ⌝ }
+{
+    if whole::between(1, cell(cells, CellFound::At(OBJECTS)), z) {
+        ObjectFound::At(ObjectNumber(z as u8))
+    } else {
+        ObjectFound::Nothing
     }
 }
 
@@ -123,7 +156,7 @@ pub fn of_call(cells: &[i32], l: Label, field: u16) -> i32
 pub fn label_of(cells: &[i32], z: i32) -> LabelFound
     ensures { λ r. ⌜ r ≡ Found.asLabel (Stages.labelOf (now (cells .entry)) z) ⌝ }
 {
-    if whole::between(1, cell(cells, CALLS), z) {
+    if whole::between(1, cell(cells, CellFound::At(CALLS)), z) {
         LabelFound::At(Label(z as u32))
     } else {
         LabelFound::Nothing

@@ -1,0 +1,31 @@
+-- `layout::writers::to_stage` meets its contract. Assumes nothing.
+use denote.Ref.{now}
+use mathlib.Core.Path.{ap, _∙_}
+use mir.Syntax.{w32}
+use mir.ValLaws.{toZ-pos}
+use native.Mathlib.Omega.{arith}
+use Rattle.layout.specs.Layout.{written, toCall, stage}
+use Rattle.layout.specs.Stages.{staged}
+use borrow.Author.Needs.{needs}
+use Rattle.layout.proofs.writers.to_stage.Statement.{statement}
+use Rattle.layout.proofs.writers.to_stage.Tie as tie
+
+cast-to-call : tie.Need-cast-to-call
+cast-to-call c = search needs
+
+to-call-requires : tie.Need-to-call-requires
+to-call-requires c κs = search needs
+
+same-length : tie.Need-same-length
+same-length c = search needs
+
+returns : tie.Need-returns
+unfolding staged
+returns c =
+    let a = c .before .before .before in
+    let cells = now (a .args .cells) in
+    c .before .to-call .ensures
+    ∙ ap (λ z. written cells (toCall cells (a .args .l .0) stage z)) (toZ-pos w32 (a .args .stage) (omega (arith, a .fits .stage)))
+
+pub to-stage-spec : {M : Type 1} → statement M
+to-stage-spec = tie.close (tie.spec cast-to-call to-call-requires same-length returns)
