@@ -51,12 +51,11 @@ def copied(to):
 
 
 def checked(root, crate):
-    """Whether a crate is proved, and what was refused: the tables of cases, or the definition itself, which then misfits."""
+    """Whether a crate is proved, whether its definitions are taken, and what was refused."""
     run = subprocess.run(["rt", "dev", crate], cwd=root, capture_output=True, text=True)
     said = re.findall(r"/(specs|proofs)/([\w/]+)\.antt:\d+:\d+: error: `?([\w-]+)`?", run.stdout + run.stderr)
-    if any(folder == "specs" for folder, _, _ in said):
-        sys.exit(f"{crate}: a definition is refused by itself, which shows nothing: {said[0]}")
-    return run.returncode == 0, [f"{file}, {name}" for _, file, name in said]
+    fits = not any(folder == "specs" for folder, _, _ in said)
+    return run.returncode == 0, fits, [f"{file}, {name}" for _, file, name in said]
 
 
 def main(words):
@@ -66,7 +65,7 @@ def main(words):
         root = pathlib.Path(folder)
         copied(root)
         for crate in sorted({block[1] for block in wrong}):
-            proved, said = checked(root, crate)
+            proved, _, said = checked(root, crate)
             if not proved:
                 sys.exit(f"{crate} is not proved as it stands: {said}")
         for name, crate, file, put in wrong:
@@ -77,10 +76,11 @@ def main(words):
                     sys.exit(f"{name}: {file} has `{old}` {after.count(old)} times")
                 after = after.replace(old, new)
             path.write_text(after, encoding="utf-8")
-            proved, said = checked(root, crate)
+            proved, fits, said = checked(root, crate)
             path.write_text(before, encoding="utf-8")
-            standing += proved
-            print(("STANDS  " if proved else "falls   ") + name + ("" if proved else f"  ({'; '.join(said[:3])})"), flush=True)
+            # One that is refused by itself, in its own file, shows nothing.
+            standing += proved or not fits
+            print(f"{'STANDS' if proved else 'falls ' if fits else 'MISFIT'}  {name}  ({'; '.join(said[:3])})", flush=True)
     print(f"{len(wrong) - standing} of {len(wrong)} wrong definitions fell")
     return 1 if standing else 0
 
