@@ -1,6 +1,9 @@
 -- What the proofs of this crate and of those above it cite.
 mod Cases
+pub mod CallFromTest
 pub mod Facts
+pub mod FromTest
 pub mod Open
 pub mod Tested
+pub mod ToTest
 pub mod Writes
