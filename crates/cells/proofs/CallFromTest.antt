@@ -5,6 +5,8 @@ use mathlib.Core.List.{List, [], _∷_}
 use mathlib.Core.Option.{Option, none, some}
 use mathlib.Core.Path.{_≡_, refl, sym, ap, subst, _∙_}
 use native.Mathlib.Omega.{arith}
+use borrow.Author.Tests.{leb-true, leb-false}
+use lib.Dec.{leb}
 use lib.IntN.{ℤ, pos}
 use Rattle.whole.specs.Plain.{all, whenever}
 use Rattle.whole.specs.Whole.{between, eqZ, nat}
@@ -33,10 +35,6 @@ pub passed : (bs : List Bool) → all bs ≡ true → Passed bs
 passed [] e = tt
 passed (b ∷ bs) e = (both-left b (all bs) e, passed bs (both-right b (all bs) e))
 
-pub passing : (bs : List Bool) → Passed bs → all bs ≡ true
-passing [] h = refl
-passing (b ∷ bs) h = both b (all bs) (h .0) (passing bs (h .1))
-
 -- a number that is one, by a fact about it
 pub counted-is : (z : ℤ) (n : ℕ) → Counts z → nat z ≡ n → z ≡ pos n
 counted-is z n h e = h ∙ ap pos e
@@ -47,11 +45,11 @@ module _ (m : Model) (c : Cells) (l : ℕ) where
   unfolding unboundHolds
   unbound-facts e =
       let (a, (v, (i, (w, _)))) = passed (
-          between (pos 0) (pos mostParams) (ofCall c l Layout.args)
-          ∷ zeroFrom mostLocals (nat (ofCall c l Layout.args)) (λ i. ofCall c l (local i))
-          ∷ is (ofCall c l Layout.line) 0
-          ∷ is (ofCall c l Layout.cleared) 0
-          ∷ []) e in
+      between (pos 0) (pos mostParams) (ofCall c l Layout.args)
+      ∷ zeroFrom mostLocals (nat (ofCall c l Layout.args)) (λ i. ofCall c l (local i))
+      ∷ is (ofCall c l Layout.line) 0
+      ∷ is (ofCall c l Layout.cleared) 0
+      ∷ []) e in
       record {
         args = number 0 mostParams _ a;
         locals = zeros mostLocals _ _ v;
@@ -69,6 +67,21 @@ module _ (m : Model) (c : Cells) (l : ℕ) where
     unfolding inStages Rattle.layout.specs.Stages.stageOf
     in-stages s t h k = numbered s t (ofCall c l Layout.stage) (record { counts = count .counts; least = h; most = k })
 
+    -- and where it is in none of several stages
+    pub below-first : (s t : ℕ) → inStages c l s t ≡ false → nat (ofCall c l Layout.stage) ≤ t → nat (ofCall c l Layout.stage) < s
+    below-first s t f h = go (leb s (nat (ofCall c l Layout.stage))) refl
+      where
+        go : (b : Bool) → leb s (nat (ofCall c l Layout.stage)) ≡ b → nat (ofCall c l Layout.stage) < s
+        go true e = absurd (passed-failed (in-stages s t (leb-true _ _ e) h) f)
+        go false e = leb-false _ _ e
+
+    pub past-last : (s t : ℕ) → inStages c l s t ≡ false → s ≤ nat (ofCall c l Layout.stage) → t < nat (ofCall c l Layout.stage)
+    past-last s t f h = go (leb (nat (ofCall c l Layout.stage)) t) refl
+      where
+        go : (b : Bool) → leb (nat (ofCall c l Layout.stage)) t ≡ b → t < nat (ofCall c l Layout.stage)
+        go true e = absurd (passed-failed (in-stages s t h (leb-true _ _ e)) f)
+        go false e = leb-false _ _ e
+
     -- "From stage 3 ..": where the call stands, and what its line says
     bound-facts : (o : ℕ) → ofCall c l Layout.callee ≡ pos o → boundHolds m c l ≡ true → Bound m (ofObject c o Layout.class) (ofCall c l)
     unfolding boundHolds lineHolds
@@ -83,10 +96,10 @@ module _ (m : Model) (c : Cells) (l : ℕ) where
             let zero = zeroFrom mostLocals (s .body .locals) (λ i. ofCall c l (local i)) in
             let line : lineHolds m c l (s .statement) ≡ true = both-right zero _ e in
             let (w, (n, (r, _))) = passed (
-                whenever (is (ofCall c l Layout.cleared) 1) (inStages c l bound running && isShape Shape.Await (shapeOf (s .statement)))
-                ∷ whenever (inStage c l bound && is (ofCall c l Layout.cleared) 0) (is (ofCall c l Layout.line) 0)
-                ∷ whenever (inStages c l answered taken) (isShape Shape.Return (shapeOf (s .statement)))
-                ∷ []) line in
+            whenever (is (ofCall c l Layout.cleared) 1) (inStages c l bound running && isShape Shape.Await (shapeOf (s .statement)))
+            ∷ whenever (inStage c l bound && is (ofCall c l Layout.cleared) 0) (is (ofCall c l Layout.line) 0)
+            ∷ whenever (inStages c l answered taken) (isShape Shape.Return (shapeOf (s .statement)))
+            ∷ []) line in
             record {
               stands = a;
               locals = subst (λ b. ZeroFrom mostLocals (b .locals) (λ i. ofCall c l (local i))) (sym b) (zeros mostLocals _ _ (both-left zero _ e));
@@ -106,10 +119,10 @@ module _ (m : Model) (c : Cells) (l : ℕ) where
     unfolding callerlessHolds
     callerless-facts o callee e none-called =
         let (s, (j, (k, _))) = passed (
-            (inStages c l bound running || inStage c l taken)
-            ∷ is (ofCall c l Layout.method) 0
-            ∷ (elim (classOf m c (nat (ofCall c l Layout.callee))) [ none ↦ false | some k ↦ runs k ])
-            ∷ []) (asked (eqZ (ofCall c l Layout.caller) nobody) _ e (equalled _ 0 none-called)) in
+        (inStages c l bound running || inStage c l taken)
+        ∷ is (ofCall c l Layout.method) 0
+        ∷ (elim (classOf m c (nat (ofCall c l Layout.callee))) [ none ↦ false | some k ↦ runs k ])
+        ∷ []) (asked (eqZ (ofCall c l Layout.caller) nobody) _ e (equalled _ 0 none-called)) in
         let (class, f, u) = runs-at (classOf m c (nat (ofCall c l Layout.callee))) refl k in
         let z = stage-at (inStages c l bound running) refl s in
         record {
@@ -138,11 +151,11 @@ module _ (m : Model) (c : Cells) (l : ℕ) where
   call-facts counted e =
       let rest = named ∷ between (pos 0) (pos 1) (ofCall c l Layout.cleared) ∷ valued ∷ stood ∷ callerlessHolds m c l ∷ [] in
       let (s, (by, (to, (j, _)))) = passed (
-          inStages c l invoked taken
-          ∷ between (pos 0) (read c objects) (ofCall c l Layout.caller)
-          ∷ between (pos 1) (read c objects) (ofCall c l Layout.callee)
-          ∷ between (pos 0) (pos lastMethod) (ofCall c l Layout.method)
-          ∷ []) (both-left (numbersHold m c l) (all rest) e) in
+      inStages c l invoked taken
+      ∷ between (pos 0) (read c objects) (ofCall c l Layout.caller)
+      ∷ between (pos 1) (read c objects) (ofCall c l Layout.callee)
+      ∷ between (pos 0) (pos lastMethod) (ofCall c l Layout.method)
+      ∷ []) (both-left (numbersHold m c l) (all rest) e) in
       let (n, (w, (v, (b, (r, _))))) = passed rest (both-right (numbersHold m c l) (all rest) e) in
       let count = stages-are m c l invoked taken s in
       let flag = number 0 1 (ofCall c l Layout.cleared) w in

@@ -48,9 +48,25 @@ unfolding isShape
 shape-is s t e = go s t (eqb-true (shapeNumber s) (shapeNumber t) e)
   where
     shape : ℕ → Shape
-    shape n = elim (eqb n 0) [ true ↦ Shape.If | false ↦ elim (eqb n 1) [ true ↦ Shape.Else | false ↦ elim (eqb n 2) [ true ↦ Shape.Fi
-      | false ↦ elim (eqb n 3) [ true ↦ Shape.While | false ↦ elim (eqb n 4) [ true ↦ Shape.Od | false ↦ elim (eqb n 5) [ true ↦ Shape.Return
-      | false ↦ elim (eqb n 6) [ true ↦ Shape.Await | false ↦ Shape.Plain ] ] ] ] ] ] ]
+    shape n = elim (eqb n 0) [
+      | true ↦ Shape.If
+      | false ↦ elim (eqb n 1) [
+        | true ↦ Shape.Else
+        | false ↦ elim (eqb n 2) [
+          | true ↦ Shape.Fi
+          | false ↦ elim (eqb n 3) [
+            | true ↦ Shape.While
+            | false ↦ elim (eqb n 4) [
+              | true ↦ Shape.Od
+              | false ↦ elim (eqb n 5) [
+                | true ↦ Shape.Return
+                | false ↦ elim (eqb n 6) [ true ↦ Shape.Await | false ↦ Shape.Plain ]
+              ]
+            ]
+          ]
+        ]
+      ]
+    ]
 
     back : (s : Shape) → shape (shapeNumber s) ≡ s
     back Shape.If = unfold shapeNumber in refl
@@ -115,9 +131,10 @@ module _ (m : Model) (c : Cells) where
       there (some l) f e =
           let n = up-to-number (rowsInUse c) z l f in
           let a = equals (ofCall c l Layout.stage) running (both-left (inStage c l running) _ e) in
-          let b = equals (ofCall c l Layout.callee) o (both-right (inStage c l running) _ e) in
-          (record { counts = n .0 .counts; least = omega arith; most = n .0 .most },
-          λ h. (ap (λ l. ofCall c l Layout.stage) (n .1) ∙ a, ap (λ l. ofCall c l Layout.callee) (n .1) ∙ b))
+          let b = equals (ofCall c l Layout.callee) o (both-right (inStage c l running) _ e) in (
+            record { counts = n .0 .counts; least = omega arith; most = n .0 .most },
+            λ h. (ap (λ l. ofCall c l Layout.stage) (n .1) ∙ a, ap (λ l. ofCall c l Layout.callee) (n .1) ∙ b),
+          )
 
       go : (b : Bool) → eqZ z (pos 0) ≡ b
           → b || (elim (upTo (rowsInUse c) z) [ none ↦ false | some l ↦ inStage c l running && is (ofCall c l Layout.callee) o ]) ≡ true → Named o
@@ -175,14 +192,18 @@ module _ (m : Model) (c : Cells) where
       let zj = of-natural (ofCall c l Layout.method) j ej in
       let zn = of-natural (ofCall c l Layout.args) n en in
       let zi = of-natural (ofCall c l Layout.line) i ei in
-      let q : record { body = b; at = i; statement = st } ≡ s = cc in
-      (record {
-        class = class;
-        body = b;
-        statement = st;
-        exists = record { counts = counts-of zk; there = ap (getElem? m) (nat-of zk) ∙ g1 };
-        has = ap (getElem? (class .methods)) (nat-of zj) ∙ g2;
-        params = zn ∙ ap pos (sym g3);
-        counts = counts-of zi;
-        inside = ap (getElem? (b .code)) (nat-of zi) ∙ es;
-      }, ap (λ (s : Standing). s .body) q, ap (λ (s : Standing). s .statement) q, nat-of zi ∙ ap (λ (s : Standing). s .at) q)
+      let q : record { body = b; at = i; statement = st } ≡ s = cc in (
+        record {
+          class = class;
+          body = b;
+          statement = st;
+          exists = record { counts = counts-of zk; there = ap (getElem? m) (nat-of zk) ∙ g1 };
+          has = ap (getElem? (class .methods)) (nat-of zj) ∙ g2;
+          params = zn ∙ ap pos (sym g3);
+          counts = counts-of zi;
+          inside = ap (getElem? (b .code)) (nat-of zi) ∙ es;
+        },
+        ap (λ (s : Standing). s .body) q,
+        ap (λ (s : Standing). s .statement) q,
+        nat-of zi ∙ ap (λ (s : Standing). s .at) q,
+      )

@@ -1,9 +1,11 @@
 -- What the proofs of this crate and of those above it cite.
 mod Cases
 pub mod CallFromTest
+pub mod Configured
 pub mod Facts
 pub mod FromTest
 pub mod Open
 pub mod Tested
 pub mod ToTest
+pub mod Unused
 pub mod Writes

@@ -26,7 +26,7 @@ use Rattle.cells.specs.Standing.{classOf, bodyOf, Standing, standingOf}
 use Rattle.cells.proofs.Tested.{passed-failed, Counts, Number, number, numbered, equals, equalled, natural-of, nat-of, asking, one-of, below-each}
 use Rattle.cells.proofs.Facts.{ZeroFrom, ClassAt, StandsAt, Unbound, Bound, Callerless, CallFacts, ObjectHolds, CallHolds}
 use Rattle.cells.proofs.FromTest.{stage-is, stages-are}
-use Rattle.cells.proofs.CallFromTest.{passing, counted-is, in-stage, in-stages}
+use Rattle.cells.proofs.CallFromTest.{counted-is, in-stage, in-stages, below-first, past-last}
 
 -- fields from one of a family on are 0
 pub zeroed : (family from : ℕ) (field : ℕ → ℤ) → ZeroFrom family from field → zeroFrom family from field ≡ true
@@ -90,3 +90,74 @@ module _ (m : Model) (c : Cells) where
       → standingOf m c l ≡ some (record { body = a .body; at = nat (ofCall c l Layout.line); statement = a .statement })
   unfolding standingOf
   standing-there l o callee a method = rw (body-there l o callee a method, natural-of (ofCall c l Layout.line) (a .counts), a .inside)
+
+  -- a call of which the facts hold, among objects that are counted
+  module _ (l : ℕ) (h : CallHolds m c l) where
+    o : ℕ
+    o = nat (ofCall c l Layout.callee)
+
+    unbound-test : nat (ofCall c l Layout.stage) < bound → unboundHolds m c l ≡ true
+    unfolding unboundHolds
+    unbound-test k =
+        let u = h .unbound k in
+        both _ _ (numbered 0 mostParams _ (u .args))
+        (both _ _ (zeroed mostLocals _ _ (u .locals))
+        (both _ _ (equalled _ 0 (u .line))
+        (both _ true (equalled _ 0 (u .cleared)) refl)))
+
+    bound-test : bound ≤ nat (ofCall c l Layout.stage) → boundHolds m c l ≡ true
+    unfolding boundHolds lineHolds o
+    bound-test k =
+        let b = h .bound k in
+        let stand = standing-there l o (h .callee .counts) (b .stands) (h .method .counts) in
+        let await : (is (ofCall c l Layout.cleared) 1 ≡ true) → (inStages c l bound running && isShape Shape.Await (shapeOf (b .stands .statement))) ≡ true =
+        λ t.
+        let w = b .cleared (nat-of (equals _ 1 t)) in
+        both _ _ (in-stages m c l (h .stage) (h .cleared) bound running k (w .0)) (shape-tested Shape.Await _ (w .1)) in
+        let first : (inStage c l bound && is (ofCall c l Layout.cleared) 0 ≡ true) → is (ofCall c l Layout.line) 0 ≡ true =
+        λ t.
+        equalled _ 0 (b .first (nat-of (stage-is m c l bound (both-left (inStage c l bound) _ t))) (nat-of (equals _ 0 (both-right (inStage c l bound) _ t)))) in
+        let returned : (inStages c l answered taken ≡ true) → isShape Shape.Return (shapeOf (b .stands .statement)) ≡ true =
+        λ t. shape-tested Shape.Return _ (b .returned (stages-are m c l answered taken t .least)) in
+        rw (stand, boundHolds)
+        (both _ _ (zeroed mostLocals _ _ (b .locals)) (both _ _ (asking _ _ await) (both _ _ (asking _ _ first) (both _ true (asking _ _ returned) refl))))
+
+    callerless-test : callerlessHolds m c l ≡ true
+    unfolding callerlessHolds o
+    callerless-test = asking (eqZ (ofCall c l Layout.caller) nobody) _ (λ t. holds (h .callerless (nat-of (equals _ 0 t))))
+      where
+        stages : Callerless m (ofObject c o Layout.class) (ofCall c l Layout.stage) (ofCall c l Layout.method)
+            → (inStages c l bound running || inStage c l taken) ≡ true
+        stages r =
+            one-of (inStages c l bound running) _
+            (λ f.
+            let n = past-last m c l (h .stage) (h .cleared) bound running f (r .bound) in
+            let s = h .stage in
+            let u = r .unanswered in
+            let v = r .unreplied in
+            in-stage m c l (h .stage) (h .cleared) taken (omega arith))
+
+        holds : Callerless m (ofObject c o Layout.class) (ofCall c l Layout.stage) (ofCall c l Layout.method)
+            → all ((inStages c l bound running || inStage c l taken) ∷ is (ofCall c l Layout.method) 0 ∷ (elim (classOf m c o) [ none ↦ false | some k ↦ runs k ]) ∷ []) ≡ true
+        holds r =
+            let run : (elim (classOf m c o) [ none ↦ false | some k ↦ runs k ]) ≡ true = rw (class-there o (r .class) (r .exists)) (r .runs) in
+            both _ _ (stages r) (both _ _ (equalled _ 0 (r .first)) (both _ true run refl))
+
+    pub call-test : Counts (read c objects) → callHolds m c l ≡ true
+    unfolding callHolds numbersHold namedByCallee objectsInUse inStages stageOf o
+    call-test counted =
+        let by : between (pos 0) (read c objects) (ofCall c l Layout.caller) ≡ true =
+        subst (λ n. between (pos 0) n (ofCall c l Layout.caller) ≡ true) (sym counted) (numbered 0 _ _ (h .caller)) in
+        let to : between (pos 1) (read c objects) (ofCall c l Layout.callee) ≡ true =
+        subst (λ n. between (pos 1) n (ofCall c l Layout.callee) ≡ true) (sym counted) (numbered 1 _ _ (h .callee)) in
+        both _ _
+        (both _ _ (numbered invoked taken _ (h .stage)) (both _ _ by (both _ _ to (both _ true (numbered 0 lastMethod _ (h .method)) refl))))
+        (both _ _ (asking (inStage c l running) _ (λ t. equalled _ l (h .named (nat-of (stage-is m c l running t)))))
+        (both _ _ (numbered 0 1 _ (h .cleared))
+        (both _ _ (one-of (inStages c l answered taken) _ (λ f. equalled _ 0 (h .value (below-first m c l (h .stage) (h .cleared) answered taken f (h .stage .most)))))
+        (both _ _ (stood (inStages c l bound taken) refl)
+        (both _ true callerless-test refl)))))
+      where
+        stood : (t : Bool) → inStages c l bound taken ≡ t → (elim t [ true ↦ boundHolds m c l | false ↦ unboundHolds m c l ]) ≡ true
+        stood true e = bound-test (stages-are m c l bound taken e .least)
+        stood false e = unbound-test (below-first m c l (h .stage) (h .cleared) bound taken e (h .stage .most))
