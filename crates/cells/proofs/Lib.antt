@@ -5,6 +5,7 @@ pub mod Configured
 pub mod Facts
 pub mod FromTest
 pub mod Open
+pub mod Rows
 pub mod Tested
 pub mod ToTest
 pub mod Unused
