@@ -1,6 +1,7 @@
 -- What the proofs of this crate and of those above it cite.
 mod Cases
 pub mod CallFromTest
+pub mod Changed
 pub mod Configured
 pub mod Facts
 pub mod FromTest
