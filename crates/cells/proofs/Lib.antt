@@ -5,6 +5,7 @@ pub mod Changed
 pub mod Configured
 pub mod Facts
 pub mod FromTest
+pub mod Moves
 pub mod Open
 pub mod Rows
 pub mod Tested
