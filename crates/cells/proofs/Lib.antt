@@ -7,6 +7,7 @@ pub mod Facts
 pub mod FromTest
 pub mod Moves
 pub mod Open
+pub mod Rewritten
 pub mod Rows
 pub mod Tested
 pub mod ToTest
