@@ -4,8 +4,10 @@ pub mod CallFromTest
 pub mod Changed
 pub mod Configured
 pub mod Facts
+pub mod Freshly
 pub mod FromTest
 pub mod Moves
+pub mod NewRows
 pub mod Open
 pub mod Rewritten
 pub mod Rows
