@@ -173,16 +173,13 @@ module _ (m : Model) (c : Cells) where
   unfolding inStages stageOf
   stages-are l s t e = number s t (ofCall c l Layout.stage) e
 
-  -- where a call stands
-  pub stands-at : (l o : ℕ) → ofCall c l Layout.callee ≡ pos o → (s : Standing) → standingOf m c l ≡ some s
-      → (a : StandsAt m (ofObject c o Layout.class) (ofCall c l Layout.method) (ofCall c l Layout.args) (ofCall c l Layout.line))
-      × (a .body ≡ s .body) × (a .statement ≡ s .statement) × (nat (ofCall c l Layout.line) ≡ s .at)
-  unfolding standingOf bodyOf
-  stands-at l o callee s e =
-      let (b, eb, e1) = found (bodyOf m c l) _ s e in
-      let (i, ei, e2) = found (natural (ofCall c l Layout.line)) _ s e1 in
-      let (st, es, e3) = found (getElem? (b .code) i) _ s e2 in
-      let (o′, eo, f1) = found (natural (ofCall c l Layout.callee)) _ b eb in
+  -- the method that a call is bound to
+  pub body-at : (l o : ℕ) → ofCall c l Layout.callee ≡ pos o → (b : Method) → bodyOf m c l ≡ some b
+      → (class : Class) × ClassAt m (ofObject c o Layout.class) class × (getElem? (class .methods) (nat (ofCall c l Layout.method)) ≡ some b)
+      × (ofCall c l Layout.args ≡ pos (b .params))
+  unfolding bodyOf
+  body-at l o callee b e =
+      let (o′, eo, f1) = found (natural (ofCall c l Layout.callee)) _ b e in
       let (k, ek, f2) = found (natural (ofObject c o′ Layout.class)) _ b f1 in
       let (j, ej, f3) = found (natural (ofCall c l Layout.method)) _ b f2 in
       let (n, en, f4) = found (natural (ofCall c l Layout.args)) _ b f3 in
@@ -191,15 +188,27 @@ module _ (m : Model) (c : Cells) where
       let zk : ofObject c o Layout.class ≡ pos k = ap (λ o. ofObject c o Layout.class) (sym same) ∙ of-natural _ k ek in
       let zj = of-natural (ofCall c l Layout.method) j ej in
       let zn = of-natural (ofCall c l Layout.args) n en in
+      (class, record { counts = counts-of zk; there = ap (getElem? m) (nat-of zk) ∙ g1 }, ap (getElem? (class .methods)) (nat-of zj) ∙ g2, zn ∙ ap pos (sym g3))
+
+  -- where a call stands
+  pub stands-at : (l o : ℕ) → ofCall c l Layout.callee ≡ pos o → (s : Standing) → standingOf m c l ≡ some s
+      → (a : StandsAt m (ofObject c o Layout.class) (ofCall c l Layout.method) (ofCall c l Layout.args) (ofCall c l Layout.line))
+      × (a .body ≡ s .body) × (a .statement ≡ s .statement) × (nat (ofCall c l Layout.line) ≡ s .at)
+  unfolding standingOf
+  stands-at l o callee s e =
+      let (b, eb, e1) = found (bodyOf m c l) _ s e in
+      let (i, ei, e2) = found (natural (ofCall c l Layout.line)) _ s e1 in
+      let (st, es, e3) = found (getElem? (b .code) i) _ s e2 in
+      let (class, exists, has, params) = body-at l o callee b eb in
       let zi = of-natural (ofCall c l Layout.line) i ei in
       let q : record { body = b; at = i; statement = st } ≡ s = cc in (
         record {
           class = class;
           body = b;
           statement = st;
-          exists = record { counts = counts-of zk; there = ap (getElem? m) (nat-of zk) ∙ g1 };
-          has = ap (getElem? (class .methods)) (nat-of zj) ∙ g2;
-          params = zn ∙ ap pos (sym g3);
+          exists = exists;
+          has = has;
+          params = params;
           counts = counts-of zi;
           inside = ap (getElem? (b .code)) (nat-of zi) ∙ es;
         },

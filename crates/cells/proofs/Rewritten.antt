@@ -45,6 +45,12 @@ module _ (m : Model) (c d : Cells) (n r l o : ℕ) (row its : Fields) (h : Rows 
       (sym (h .object))
       (object-among m r (rowsInUse d) s _ t _ o its facts (omega arith) (λ b. let g = facts .running b in (e ∙ g .0, f ∙ g .1)))
 
+-- a call in use, by its callee's number
+pub call-at : (m : Model) (c : Cells) (l o : ℕ) → Configured m c → 1 ≤ l → l ≤ rowsInUse c → ofCall c l callee ≡ pos o
+    → CallFacts m (objectsInUse c) (ofObject c o class) (ofObject c o runningLabel) l (ofCall c l)
+call-at m c l o conf low high of =
+    subst (λ o. CallFacts m (objectsInUse c) (ofObject c o class) (ofObject c o runningLabel) l (ofCall c l)) (nat-of of) (conf .call l low high)
+
 -- what becomes of a callee's running label: it is kept, the call takes it up, or the call gives it back
 pub data LabelGoes (l : ℕ) (old new stage : ℤ) : Type 0 where
   kept : new ≡ old → (old ≡ pos l → stage ≡ pos running) → LabelGoes l old new stage

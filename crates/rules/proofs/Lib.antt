@@ -2,5 +2,7 @@
 mod Bounds
 mod Cases
 pub mod Chosen
+pub mod Messaging
+pub mod Moved
 pub mod Open
 pub mod Scene
