@@ -5,4 +5,5 @@ pub mod Chosen
 pub mod Messaging
 pub mod Moved
 pub mod Open
+pub mod Performing
 pub mod Scene
