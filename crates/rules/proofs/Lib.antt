@@ -1,6 +1,7 @@
 -- What the proofs above cite.
 mod Bounds
 mod Cases
+pub mod Adding
 pub mod Chosen
 pub mod Messaging
 pub mod Moved
