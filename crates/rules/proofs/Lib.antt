@@ -3,6 +3,7 @@ mod Bounds
 mod Cases
 pub mod Adding
 pub mod Chosen
+pub mod Leaving
 pub mod Messaging
 pub mod Moved
 pub mod Open
