@@ -3,9 +3,11 @@ mod Bounds
 mod Cases
 pub mod Adding
 pub mod Chosen
+pub mod Executing
 pub mod Leaving
 pub mod Messaging
 pub mod Moved
 pub mod Open
 pub mod Performing
+pub mod Replying
 pub mod Scene
