@@ -13,3 +13,4 @@ pub mod Open
 pub mod Performing
 pub mod Replying
 pub mod Scene
+pub mod Sparing
