@@ -3,6 +3,7 @@ mod Bounds
 mod Cases
 pub mod Adding
 pub mod Chosen
+pub mod Effects
 pub mod Executing
 pub mod Inside
 pub mod Kept
