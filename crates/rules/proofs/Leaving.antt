@@ -54,7 +54,7 @@ module _ (m : Model) (c : Cells) (o l : ℕ) (p : Performing m c o l) where
       (leaves _ _ d (p .callee) (suspended m _ _ _ l _ holds (nat-of (p .stage)) (p .bound) await))
 
   -- the stage after a return, by whether there is a caller
-  stage-after : (at : Standing) → (let t = stageReturned m c o l at in (answered ≤ t) × (t ≤ taken) × (nat (ofCall c l caller) ≡ 0 → t ≡ taken))
+  pub stage-after : (at : Standing) → (let t = stageReturned m c o l at in (answered ≤ t) × (t ≤ taken) × (nat (ofCall c l caller) ≡ 0 → t ≡ taken))
   unfolding stageReturned
   stage-after at = go (eqZ (ofCall c l caller) nobody) refl
     where

@@ -4,6 +4,7 @@ mod Cases
 pub mod Adding
 pub mod Chosen
 pub mod Effects
+pub mod ExecEffects
 pub mod Executing
 pub mod Inside
 pub mod Kept
