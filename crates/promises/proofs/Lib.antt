@@ -1,4 +1,7 @@
 -- The theorems over the definitions.
+pub mod Acting
+pub mod Acts
 pub mod Marked
 pub mod Open
+pub mod Untouched
 pub mod Witness

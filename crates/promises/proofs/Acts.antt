@@ -1,0 +1,101 @@
+-- What an accepted choice does, by its kind and the statement of the line: what it writes, what happens to calls, and under which tests. Every
+-- theorem about steps goes through these cases. Assumes nothing.
+use Prim.Native.Nat.{ℕ, suc, _+_, _≤_}
+use mathlib.Core.Bool.{Bool, true, false}
+use mathlib.Core.List.{List, [], _∷_, _++_, map}
+use mathlib.Core.Option.{Option, none, some}
+use mathlib.Core.Path.{_≡_, refl, sym, ap, subst, _∙_}
+use native.Mathlib.Omega.{arith}
+use lib.IntN.{ℤ, pos}
+use lib.ListN.{length}
+use Rattle.whole.specs.declared.Worked.{Worked}
+use Rattle.whole.specs.declared.Worked.the-variants.{Value, OutOfRange}
+use Rattle.whole.specs.Whole.{isTrue, eqZ, nat}
+use Rattle.layout.specs.Layout.{Cells, Write, written, ofObject, ofCall, toObject, toCall, runningLabel, line, cleared, value, callee}
+use Rattle.layout.specs.Stages.{invoked, queued, bound, running, answered, replied, taken, objectsInUse, rowsInUse, objectOf, labelOf, upTo, inStage, replyFor, staged}
+use Rattle.terms.specs.declared.Variable.{Variable}
+use Rattle.terms.specs.Trees.{Expression, Guard}
+use Rattle.terms.specs.Values.{held, valueOf, guardOf}
+use Rattle.code.specs.Statements as Code
+use Rattle.model.specs.Model.{Model, Method}
+use Rattle.cells.specs.Standing.{Standing, standingOf, bodyOf}
+use Rattle.rules.specs.declared.Choice.{Choice}
+use Rattle.rules.specs.Events.{Event, issuing, spawning, arriving, binding, returning, delivering, taking, performing, executing, happening, eventsOf}
+use Rattle.rules.specs.Exec as Exec
+use Rattle.rules.specs.Exec.{here, stored, nextObject, nextRow, objectLeft, rowLeft, classRuns, withObject, withCall, workedOut, onward, jumped, made, freed, crossed, suspended, stageReturned, performed}
+use Rattle.rules.specs.Kinds.{Kind, exec, arrive, bind, start, deliver, kindOf, inUse, choose}
+use Rattle.rules.specs.Messages as Messages
+use Rattle.rules.specs.Messages.{ready, started, startIn}
+use Rattle.rules.specs.Next.{Next, refused, moved, must, working, workingAll, cellsAfter}
+use Rattle.rules.specs.Step.{ruled, next}
+
+-- a test that had to pass did; a value that had to be worked out was; and so were several
+pub must-moved : (b : Bool) (n : ℕ) (k : Next) (ws : List Write) → must b n k ≡ moved ws → (b ≡ true) × (k ≡ moved ws)
+unfolding must
+must-moved true n k ws e = (refl, e)
+must-moved false n k ws e = absurd (let z : _≡_ {A = ℕ} 0 1 = cc in omega arith)
+
+pub working-moved : (w : Worked) (k : ℤ → Next) (ws : List Write) → working w k ≡ moved ws → (z : ℤ) × (w ≡ Value z) × (k z ≡ moved ws)
+unfolding working
+working-moved (Value z) k ws e = (z, refl, e)
+working-moved OutOfRange k ws e = absurd (let z : _≡_ {A = ℕ} 0 1 = cc in omega arith)
+
+pub all-moved : (es : List Expression) (f : Expression → Worked) (k : List ℤ → Next) (ws : List Write) → workingAll (map f es) k ≡ moved ws
+    → (zs : List ℤ) × (length zs ≡ length es) × (k zs ≡ moved ws)
+unfolding workingAll
+all-moved [] f k ws e = ([], refl, e)
+all-moved (x ∷ es) f k ws e =
+    let first = working-moved (f x) (λ z. workingAll (map f es) (λ zs. k (z ∷ zs))) ws e in
+    let rest = all-moved es f (λ zs. k (first .0 ∷ zs)) ws (first .2) in
+    (first .0 ∷ rest .0, ap suc (rest .1), rest .2)
+
+-- an object in use is chosen and its running call stands at a line
+pub record Running (m : Model) (c : Cells) (choice : Choice) (o l : ℕ) (at : Standing) : Type 0 where
+  pub chosen : choice ≡ choose exec o
+  pub low : 1 ≤ o
+  pub high : o ≤ objectsInUse c
+  pub runs : labelOf c (ofObject c o runningLabel) ≡ some l
+  pub stands : standingOf m c l ≡ some at
+
+-- a label in use is chosen, of some kind
+pub record Chosen (c : Cells) (choice : Choice) (k : Kind) (l : ℕ) : Type 0 where
+  pub chosen : choice ≡ choose k l
+  pub low : 1 ≤ l
+  pub high : l ≤ rowsInUse c
+
+module _ (m : Model) (c : Cells) (choice : Choice) where
+  pub data Act : List Write → List Event → Type 0 where
+    -- the line only goes on or to another line, stores or not, clears or not: `skip`, `set`, the lines of blocks, and an `await` that is crossed
+    goes : (o l : ℕ) (at : Standing) → Running m c choice o l at → Act (onward m c o l at) []
+    jumps : (o l : ℕ) (at : Standing) → Running m c choice o l at → Act (jumped m c o l at) []
+    stores : (o l : ℕ) (at : Standing) → Running m c choice o l at → (x : Variable) (z : ℤ) → Act (stored c o l x z ++ onward m c o l at) []
+    crosses : (o l : ℕ) (at : Standing) → Running m c choice o l at → Act (crossed m c o l at) []
+    -- `new`, of a class with run 0 and with run 1
+    creates : (o l : ℕ) (at : Standing) → Running m c choice o l at → (x : Variable) (k : ℕ) (zs : List ℤ) → objectLeft c ≡ true
+        → Act (withObject c k 0 zs ++ stored c o l x (pos (nextObject c)) ++ onward m c o l at) []
+    spawns : (o l : ℕ) (at : Standing) → Running m c choice o l at → (x : Variable) (k : ℕ) (es : List Expression) (zs : List ℤ)
+        → at .statement ≡ Code.new x k es → objectLeft c ≡ true → rowLeft c ≡ true → (d : Cells)
+        → d ≡ written c ((withObject c k (nextRow c) zs ++ withCall c running 0 (nextObject c) 0 []) ++ stored c o l x (pos (nextObject c)) ++ onward m c o l at)
+        → Act ((withObject c k (nextRow c) zs ++ withCall c running 0 (nextObject c) 0 []) ++ stored c o l x (pos (nextObject c)) ++ onward m c o l at)
+        (spawning (nat (ofObject d (objectsInUse d) runningLabel)) ∷ [])
+    -- `call`
+    issues : (o l : ℕ) (at : Standing) → Running m c choice o l at → (x : Variable) (e : Expression) (j : ℕ) (es : List Expression)
+        (z : ℤ) (to : ℕ) (zs : List ℤ) → at .statement ≡ Code.call x e j es → valueOf (here c o l) e ≡ Value z → objectOf c z ≡ some to
+        → length zs ≡ length es → rowLeft c ≡ true → (d : Cells)
+        → d ≡ written c (withCall c invoked o to j zs ++ stored c o l x (pos (nextRow c)) ++ onward m c o l at)
+        → Act (withCall c invoked o to j zs ++ stored c o l x (pos (nextRow c)) ++ onward m c o l at) (issuing (nat (held (here d o l) x)) ∷ [])
+    -- `get`
+    takes : (o l : ℕ) (at : Standing) → Running m c choice o l at → (x y : Variable) (from : ℕ) → at .statement ≡ Code.get x y
+        → replyFor c o (held (here c o l) x) ≡ some from → (d : Cells)
+        → d ≡ written c (staged c from taken ++ stored c o l y (ofCall c from value) ++ onward m c o l at)
+        → Act (staged c from taken ++ stored c o l y (ofCall c from value) ++ onward m c o l at) (performing m c d o l (Code.get x y))
+    -- an `await` that is not enabled, and `return`
+    suspends : (o l : ℕ) (at : Standing) → Running m c choice o l at → Act (suspended m c o l at) []
+    returns : (o l : ℕ) (at : Standing) → Running m c choice o l at → (e : Expression) (z : ℤ) → at .statement ≡ Code.return e
+        → valueOf (here c o l) e ≡ Value z
+        → Act (toCall c l value z ++ staged c l (stageReturned m c o l at) ++ freed m c o l at) (returning l ∷ [])
+    -- the rules of a label
+    arrives : (l : ℕ) → Chosen c choice arrive l → inStage c l invoked ≡ true → Act (staged c l queued) (arriving l ∷ [])
+    binds : (l : ℕ) → Chosen c choice bind l → inStage c l queued ≡ true → Act (staged c l bound) (binding l ∷ [])
+    starts : (l : ℕ) → Chosen c choice start l → inStage c l bound ≡ true → Act (started c (nat (ofCall c l callee)) l) []
+    delivers : (l : ℕ) → Chosen c choice deliver l → inStage c l answered ≡ true → Act (staged c l replied) (delivering l ∷ [])
