@@ -1,7 +1,7 @@
 -- Every accepted choice is one of the cases of Acts. Assumes nothing.
 use Prim.Native.Nat.{ℕ, zero, suc, _+_, _≤_}
 use mathlib.Core.Bool.{Bool, true, false, _&&_}
-use mathlib.Core.List.{List, [], _∷_, _++_, map}
+use mathlib.Core.List.{List, [], _∷_, _++_, map, append-assoc}
 use mathlib.Core.Option.{Option, none, some}
 use mathlib.Core.Path.{_≡_, refl, sym, ap, subst, _∙_}
 use native.Mathlib.Omega.{arith}
@@ -75,13 +75,13 @@ module _ (m : Model) (c : Cells) (choice : Choice) (o l : ℕ) (at : Standing) (
           → moved (made m c o l at k zs ++ stored c o l x (pos (nextObject c)) ++ onward m c o l at) ≡ moved ws
           → Act m c choice ws (performing m c (written c ws) o l (new x k es))
       go true h a b e =
-          let f : (withObject c k (nextRow c) zs ++ withCall c running 0 (nextObject c) 0 []) ++ stored c o l x (pos (nextObject c)) ++ onward m c o l at ≡ ws =
-          cc (made-run k zs h) in
+          let f : (withObject c k (nextRow c) zs ++ withCall c running 0 (nextObject c) 0 []) ++ (stored c o l x (pos (nextObject c)) ++ onward m c o l at) ≡ ws =
+          cc (made-run k zs h, append-assoc (made m c o l at k zs) (stored c o l x (pos (nextObject c))) (onward m c o l at)) in
           rw (h, performing)
           (subst (λ w. Act m c choice w (spawning (nat (ofObject (written c ws) (objectsInUse (written c ws)) runningLabel)) ∷ [])) f
           (spawns o l at r x k es zs s a (rw h at b) (written c ws) (ap (written c) (sym f))))
       go false h a b e =
-          let f : withObject c k 0 zs ++ stored c o l x (pos (nextObject c)) ++ onward m c o l at ≡ ws = cc (made-still k zs h) in
+          let f : withObject c k 0 zs ++ (stored c o l x (pos (nextObject c)) ++ onward m c o l at) ≡ ws = cc (made-still k zs h, append-assoc (made m c o l at k zs) (stored c o l x (pos (nextObject c))) (onward m c o l at)) in
           rw (h, performing) (subst (λ w. Act m c choice w []) f (creates o l at r x k zs a))
 
   -- `call`, by the callee
@@ -95,7 +95,7 @@ module _ (m : Model) (c : Cells) (choice : Choice) (o l : ℕ) (at : Standing) (
       go none h = moves _ ws (rw (h, issued) at e)
       go (some to) h =
           let first = must-moved (rowLeft c) callRowsFull _ ws (rw (h, issued) at e) in
-          let f : withCall c invoked o to j zs ++ stored c o l x (pos (nextRow c)) ++ onward m c o l at ≡ ws = cc (first .1) in
+          let f : withCall c invoked o to j zs ++ (stored c o l x (pos (nextRow c)) ++ onward m c o l at) ≡ ws = cc (first .1, append-assoc (withCall c invoked o to j zs) (stored c o l x (pos (nextRow c))) (onward m c o l at)) in
           subst (λ w. Act m c choice w (issuing (nat (held (here (written c ws) o l) x)) ∷ [])) f
           (issues o l at r x ex j es z to zs s v h n (first .0) (written c ws) (ap (written c) (sym f)))
 
@@ -108,7 +108,7 @@ module _ (m : Model) (c : Cells) (choice : Choice) (o l : ℕ) (at : Standing) (
       go : (f : Option ℕ) → replyFor c o (held (here c o l) x) ≡ f → Act m c choice ws (performing m c (written c ws) o l (get x y))
       go none h = moves _ ws (rw (h, tookReply) at e)
       go (some from) h =
-          let f : staged c from taken ++ stored c o l y (ofCall c from value) ++ onward m c o l at ≡ ws = cc (rw (h, tookReply) at e) in
+          let f : staged c from taken ++ (stored c o l y (ofCall c from value) ++ onward m c o l at) ≡ ws = cc (rw (h, tookReply) at e, append-assoc (staged c from taken) (stored c o l y (ofCall c from value)) (onward m c o l at)) in
           subst (λ w. Act m c choice w (performing m c (written c ws) o l (get x y))) f
           (takes o l at r x y from s h (written c ws) (ap (written c) (sym f)))
 

@@ -72,23 +72,23 @@ module _ (m : Model) (c : Cells) (choice : Choice) where
     crosses : (o l : ℕ) (at : Standing) → Running m c choice o l at → Act (crossed m c o l at) []
     -- `new`, of a class with run 0 and with run 1
     creates : (o l : ℕ) (at : Standing) → Running m c choice o l at → (x : Variable) (k : ℕ) (zs : List ℤ) → objectLeft c ≡ true
-        → Act (withObject c k 0 zs ++ stored c o l x (pos (nextObject c)) ++ onward m c o l at) []
+        → Act (withObject c k 0 zs ++ (stored c o l x (pos (nextObject c)) ++ onward m c o l at)) []
     spawns : (o l : ℕ) (at : Standing) → Running m c choice o l at → (x : Variable) (k : ℕ) (es : List Expression) (zs : List ℤ)
         → at .statement ≡ Code.new x k es → objectLeft c ≡ true → rowLeft c ≡ true → (d : Cells)
-        → d ≡ written c ((withObject c k (nextRow c) zs ++ withCall c running 0 (nextObject c) 0 []) ++ stored c o l x (pos (nextObject c)) ++ onward m c o l at)
-        → Act ((withObject c k (nextRow c) zs ++ withCall c running 0 (nextObject c) 0 []) ++ stored c o l x (pos (nextObject c)) ++ onward m c o l at)
+        → d ≡ written c ((withObject c k (nextRow c) zs ++ withCall c running 0 (nextObject c) 0 []) ++ (stored c o l x (pos (nextObject c)) ++ onward m c o l at))
+        → Act ((withObject c k (nextRow c) zs ++ withCall c running 0 (nextObject c) 0 []) ++ (stored c o l x (pos (nextObject c)) ++ onward m c o l at))
         (spawning (nat (ofObject d (objectsInUse d) runningLabel)) ∷ [])
     -- `call`
     issues : (o l : ℕ) (at : Standing) → Running m c choice o l at → (x : Variable) (e : Expression) (j : ℕ) (es : List Expression)
         (z : ℤ) (to : ℕ) (zs : List ℤ) → at .statement ≡ Code.call x e j es → valueOf (here c o l) e ≡ Value z → objectOf c z ≡ some to
         → length zs ≡ length es → rowLeft c ≡ true → (d : Cells)
-        → d ≡ written c (withCall c invoked o to j zs ++ stored c o l x (pos (nextRow c)) ++ onward m c o l at)
-        → Act (withCall c invoked o to j zs ++ stored c o l x (pos (nextRow c)) ++ onward m c o l at) (issuing (nat (held (here d o l) x)) ∷ [])
+        → d ≡ written c (withCall c invoked o to j zs ++ (stored c o l x (pos (nextRow c)) ++ onward m c o l at))
+        → Act (withCall c invoked o to j zs ++ (stored c o l x (pos (nextRow c)) ++ onward m c o l at)) (issuing (nat (held (here d o l) x)) ∷ [])
     -- `get`
     takes : (o l : ℕ) (at : Standing) → Running m c choice o l at → (x y : Variable) (from : ℕ) → at .statement ≡ Code.get x y
         → replyFor c o (held (here c o l) x) ≡ some from → (d : Cells)
-        → d ≡ written c (staged c from taken ++ stored c o l y (ofCall c from value) ++ onward m c o l at)
-        → Act (staged c from taken ++ stored c o l y (ofCall c from value) ++ onward m c o l at) (performing m c d o l (Code.get x y))
+        → d ≡ written c (staged c from taken ++ (stored c o l y (ofCall c from value) ++ onward m c o l at))
+        → Act (staged c from taken ++ (stored c o l y (ofCall c from value) ++ onward m c o l at)) (performing m c d o l (Code.get x y))
     -- an `await` that is not enabled, and `return`
     suspends : (o l : ℕ) (at : Standing) → Running m c choice o l at → Act (suspended m c o l at) []
     returns : (o l : ℕ) (at : Standing) → Running m c choice o l at → (e : Expression) (z : ℤ) → at .statement ≡ Code.return e

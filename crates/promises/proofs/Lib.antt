@@ -3,5 +3,6 @@ pub mod Acting
 pub mod Acts
 pub mod Marked
 pub mod Open
+pub mod Spared
 pub mod Untouched
 pub mod Witness
