@@ -5,5 +5,5 @@ use Rattle.engine.proofs.Open.{engine-open}
 
 unfoldable pub promises-open : Unit {0}
 unfolding engine-open Histories.happenings Histories.history Histories.subject Histories.about Lives.issuedStages Lives.spawnedStages
-    Lives.lastFrom Lives.stagesFrom Lives.stagesAfter Lives.issues
+    Lives.lastFrom Lives.stagesFrom Lives.stagesAfter Lives.issuedBy
 promises-open = tt

@@ -141,15 +141,15 @@ pub record Demand3 (m : Model) (choices : List Choice) : Type 0 where
       → ofObject (cellsAt m choices) (nat (ofCall (cellsAt m choices) l Layout.callee)) runningLabel ≡ pos l
 
 -- an event that issues a label: by a `call` line, or by a `new` of a class with run 1 and at the start
-unfoldable pub issues : Event → ℕ
-issues (issuing l) = 1
-issues (spawning l) = 1
-issues (arriving l) = 0
-issues (binding l) = 0
-issues (returning l) = 0
-issues (delivering l) = 0
-issues (taking l) = 0
+unfoldable pub issuedBy : Event → ℕ
+issuedBy (issuing l) = 1
+issuedBy (spawning l) = 1
+issuedBy (arriving l) = 0
+issuedBy (binding l) = 0
+issuedBy (returning l) = 0
+issuedBy (delivering l) = 0
+issuedBy (taking l) = 0
 
 -- "Calls issued equals one, plus accepted `call` lines, plus accepted `new` of classes with run 1."
 abbrev pub CallsIssued : Model → List Choice → Type 0
-CallsIssued m choices = read (cellsAt m choices) calls ≡ pos (totalOf issues (history m choices))
+CallsIssued m choices = read (cellsAt m choices) calls ≡ pos (totalOf issuedBy (history m choices))
