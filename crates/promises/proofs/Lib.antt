@@ -3,8 +3,11 @@ pub mod Acting
 pub mod Acts
 pub mod Configured
 pub mod Counted
+pub mod Kept
 pub mod Marked
 pub mod Open
+pub mod Rows
 pub mod Spared
+pub mod Standings
 pub mod Untouched
 pub mod Witness

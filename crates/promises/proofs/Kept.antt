@@ -1,0 +1,61 @@
+-- What a step keeps of a call that was issued before it, field by field. Assumes nothing.
+use Prim.Native.Nat.{ℕ, _≤_}
+use mathlib.Core.Bool.{Bool, true, false, _&&_, _||_}
+use mathlib.Core.List.{List}
+use mathlib.Core.Path.{_≡_, refl, sym, ap, _∙_}
+use native.Mathlib.Omega.{arith}
+use borrow.Author.Tests.{le-ltb, ne-eqb}
+use lib.Dec.{ltb, eqb}
+use Rattle.layout.specs.Layout.{Cells, call, callRows, Write, written, ofCall, stage, caller, callee, method, args, value}
+use Rattle.layout.specs.Stages.{rowsInUse, stageOf}
+use Rattle.model.specs.Model.{Model}
+use Rattle.rules.specs.declared.Choice.{Choice}
+use Rattle.rules.specs.Events.{Event}
+use Rattle.promises.proofs.Acts.{Act}
+use Rattle.promises.proofs.Spared.{ownField, sparing, movedBy, answeredBy, act-spares}
+use Rattle.promises.proofs.Untouched.{untouched, of-call-is}
+
+-- neither test holds
+or-none : (a b : Bool) → a ≡ false → b ≡ false → a || b ≡ false
+or-none true b e f = e
+or-none false b e f = f
+
+-- a field that is spared
+spared : (n s v l f : ℕ) → l ≤ n → ownField f ≡ false → eqb f stage && eqb l s ≡ false → eqb f value && eqb l v ≡ false
+    → sparing n s v (call l f) ≡ false
+unfolding sparing
+spared n s v l f h own a b = or-none (ltb n l || ownField f) _ (or-none (ltb n l) (ownField f) (le-ltb n l h) own) (or-none (eqb f stage && eqb l s) _ a b)
+
+module _ {m : Model} {c : Cells} {choice : Choice} {ws : List Write} {es : List Event} (a : Act m c choice ws es)
+    (few : rowsInUse c ≤ callRows) (l : ℕ) (low : 1 ≤ l) (high : l ≤ rowsInUse c) where
+  kept : (f : ℕ) → sparing (rowsInUse c) (movedBy a) (answeredBy a) (call l f) ≡ false → ofCall (written c ws) l f ≡ ofCall c l f
+  kept f e =
+      of-call-is (written c ws) l low (omega arith) f
+      ∙ untouched (sparing (rowsInUse c) (movedBy a) (answeredBy a)) c ws (call l f) (act-spares a) e
+      ∙ sym (of-call-is c l low (omega arith) f)
+
+  -- who called whom, for what, and with how many arguments
+  pub kept-caller : ofCall (written c ws) l caller ≡ ofCall c l caller
+  unfolding ownField
+  kept-caller = kept caller (spared (rowsInUse c) (movedBy a) (answeredBy a) l caller high refl refl refl)
+
+  pub kept-callee : ofCall (written c ws) l callee ≡ ofCall c l callee
+  unfolding ownField
+  kept-callee = kept callee (spared (rowsInUse c) (movedBy a) (answeredBy a) l callee high refl refl refl)
+
+  pub kept-method : ofCall (written c ws) l method ≡ ofCall c l method
+  unfolding ownField
+  kept-method = kept method (spared (rowsInUse c) (movedBy a) (answeredBy a) l method high refl refl refl)
+
+  pub kept-args : ofCall (written c ws) l args ≡ ofCall c l args
+  unfolding ownField
+  kept-args = kept args (spared (rowsInUse c) (movedBy a) (answeredBy a) l args high refl refl refl)
+
+  -- the stage of a call that is not moved, and the value of one that is not answered
+  pub kept-stage : (l ≡ movedBy a → ⊥) → stageOf (written c ws) l ≡ stageOf c l
+  unfolding stageOf ownField
+  kept-stage ne = kept stage (spared (rowsInUse c) (movedBy a) (answeredBy a) l stage high refl (ne-eqb l (movedBy a) ne) refl)
+
+  pub kept-value : (l ≡ answeredBy a → ⊥) → ofCall (written c ws) l value ≡ ofCall c l value
+  unfolding ownField
+  kept-value ne = kept value (spared (rowsInUse c) (movedBy a) (answeredBy a) l value high refl refl (ne-eqb l (answeredBy a) ne))
