@@ -4,6 +4,7 @@ pub mod Acts
 pub mod Configured
 pub mod Counted
 pub mod Kept
+pub mod Lived
 pub mod Marked
 pub mod Open
 pub mod Rows
