@@ -10,5 +10,6 @@ pub mod Open
 pub mod Rows
 pub mod Spared
 pub mod Standings
+pub mod Subjects
 pub mod Untouched
 pub mod Witness

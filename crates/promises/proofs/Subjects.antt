@@ -1,0 +1,153 @@
+-- Whom the events are about: a `call` and a `new` of a class with run 1 are about the next label, and a `get` about the label whose reply it takes.
+-- Assumes nothing.
+use Prim.Native.Nat.{ℕ, _+_, _≤_, _<_}
+use mathlib.Core.Bool.{Bool, true, false, _&&_}
+use mathlib.Core.List.{List, [], _∷_, _++_, append-assoc}
+use mathlib.Core.Option.{Option, none, some}
+use mathlib.Core.Path.{_≡_, refl, sym, ap, subst, _∙_}
+use native.Mathlib.Omega.{arith}
+use borrow.Author.Tests.{ltb-true, ne-eqb}
+use lib.Dec.{eqb}
+use lib.IntN.{ℤ, pos}
+use lib.ListN.{length}
+use Rattle.whole.specs.Plain.{onlyIf}
+use Rattle.whole.specs.Whole.{eqZ, nat}
+use Rattle.whole.proofs.Both.{both-left, both-right}
+use Rattle.layout.specs.Layout.{Cells, objectRows, callRows, written, ofObject, ofCall, runningLabel, caller, line, value}
+use Rattle.layout.specs.Stages.{running, invoked, replied, taken, objectsInUse, rowsInUse, labelOf, stageOf, inStage, isReply, replyFor, staged}
+use Rattle.layout.proofs.Laws.{length-written}
+use Rattle.terms.specs.declared.Variable.{Variable}
+use Rattle.terms.specs.Trees.{Expression}
+use Rattle.terms.specs.Values.{held}
+use Rattle.code.specs.Statements.{Code, call, get}
+use Rattle.code.specs.Within.{CodeWithin}
+use Rattle.model.specs.Accepted.{AcceptedModel}
+use Rattle.model.specs.Model.{Model}
+use Rattle.cells.specs.Configuration.{isConfiguration}
+use Rattle.cells.specs.Standing.{Standing, standingOf}
+use Rattle.rules.specs.declared.Choice.{Choice}
+use Rattle.rules.specs.Events.{Event, taking, performing}
+use Rattle.rules.specs.Exec.{here, stored, nextObject, nextRow, objectLeft, rowLeft, withObject, withCall, onward}
+use Rattle.rules.proofs.Chosen.{up-to-some}
+use Rattle.promises.specs.Lives.{Issued}
+use Rattle.promises.proofs.Acting.{up-to-is}
+use Rattle.promises.proofs.Acts.{Running}
+use Rattle.promises.proofs.Configured.{equal-is, all-cells, objects-counted, calls-counted, runs-stage}
+use Rattle.promises.proofs.Rows.{NewCall, new-call, new-count, new-running, stored-reads, line-reads}
+use Rattle.promises.proofs.Spared.{tail-scratch}
+use Rattle.promises.proofs.Standings.{Fits, stood-at, stands-within}
+use Rattle.promises.proofs.Untouched.{written-append}
+
+-- rows that are left
+pub object-left : (c : Cells) → objectLeft c ≡ true → nextObject c ≤ objectRows
+unfolding objectLeft nextObject
+object-left c e = omega (arith, ltb-true (objectsInUse c) objectRows e)
+
+pub row-left : (c : Cells) → rowLeft c ≡ true → nextRow c ≤ callRows
+unfolding rowLeft nextRow
+row-left c e = omega (arith, ltb-true (rowsInUse c) callRows e)
+
+-- "a label of stage 6 whose caller is this object"
+pub record Replied (c : Cells) (o : ℕ) (z : ℤ) (from : ℕ) : Type 0 where
+  pub label : z ≡ pos from
+  pub low : 1 ≤ from
+  pub high : from ≤ rowsInUse c
+  pub stage-is : stageOf c from ≡ pos replied
+  pub caller-is : ofCall c from caller ≡ pos o
+
+pub replied-for : (c : Cells) (o : ℕ) (z : ℤ) (from : ℕ) → replyFor c o z ≡ some from → Replied c o z from
+unfolding replyFor labelOf isReply inStage onlyIf
+replied-for c o z from e = by-label (labelOf c z) refl
+  where
+    by-reply : (l : ℕ) → labelOf c z ≡ some l → (b : Bool) → isReply c o l ≡ b → replyFor c o z ≡ some from → Replied c o z from
+    by-reply l h true r e =
+        let same : l ≡ from = cc (rw (h, replyFor, r) at e) in
+        let w = up-to-some (rowsInUse c) z l h in
+        subst (λ i. Replied c o z i) same (record {
+          label = up-to-is (rowsInUse c) z l h;
+          low = w .0;
+          high = w .1;
+          stage-is = equal-is (stageOf c l) replied (both-left (inStage c l replied) (eqZ (ofCall c l caller) (pos o)) r);
+          caller-is = equal-is (ofCall c l caller) o (both-right (inStage c l replied) (eqZ (ofCall c l caller) (pos o)) r);
+        })
+    by-reply l h false r e = absurd (let n : _≡_ {A = ℕ} 0 1 = cc (rw (h, replyFor, r) at e) in omega arith)
+
+    by-label : (f : Option ℕ) → labelOf c z ≡ f → Replied c o z from
+    by-label none h = absurd (let n : _≡_ {A = ℕ} 0 1 = cc (rw (h, replyFor) at e) in omega arith)
+    by-label (some l) h = by-reply l h (isReply c o l) refl e
+
+module _ (m : Model) (accepted : AcceptedModel m) (c : Cells) (is : isConfiguration m c ≡ true) (choice : Choice) (o l : ℕ) (at : Standing)
+    (r : Running m c choice o l at) where
+  -- the running call is an issued one, of stage 4
+  pub running-issued : Issued c l
+  unfolding labelOf
+  running-issued = let w = up-to-some (rowsInUse c) (ofObject c o runningLabel) l (r .runs) in (w .0, w .1)
+
+  pub running-stage : stageOf c l ≡ pos running
+  running-stage = runs-stage m c is o l (r .low) (r .high) (r .runs)
+
+  -- its row and its object's
+  label-few : l ≤ callRows
+  label-few = let i = running-issued in let w = calls-counted m c is in omega arith
+
+  object-few : o ≤ objectRows
+  object-few = let w = objects-counted m c is in let h = r .high in omega arith
+
+  -- what it stores is there, in whatever cells it is written to
+  pub stores-it : (e : Cells) → length e ≡ length c → (x : Variable) → Fits x → (z : ℤ)
+      → held (here (written e (stored c o l x z ++ onward m c o l at)) o l) x ≡ z
+  stores-it e long x fits z =
+      stored-reads m c o l at e (long ∙ all-cells m c is) (running-issued .0) label-few (r .low) object-few x fits z
+
+  -- `new` of a class with run 1
+  pub spawn-label : (x : Variable) (k : ℕ) (zs : List ℤ) → objectLeft c ≡ true → (d : Cells)
+      → d ≡ written c ((withObject c k (nextRow c) zs ++ withCall c running 0 (nextObject c) 0 []) ++ (stored c o l x (pos (nextObject c)) ++ onward m c o l at))
+      → (nat (ofObject d (objectsInUse d) runningLabel) ≡ nextRow c) × (objectsInUse d ≡ nextObject c)
+  unfolding nat
+  spawn-label x k zs left d e =
+      let p = withObject c k (nextRow c) zs in
+      let q = withCall c running 0 (nextObject c) 0 [] in
+      let t = stored c o l x (pos (nextObject c)) ++ onward m c o l at in
+      let long = all-cells m c is in
+      let f : d ≡ written (written (written c p) q) t = e ∙ written-append c (p ++ q) t ∙ ap (λ d. written d t) (written-append c p q) in
+      let only = tail-scratch m c o l at x (pos (nextObject c)) in
+      let n : objectsInUse d ≡ nextObject c =
+      ap objectsInUse f ∙ new-count c long (object-left c left) k (nextRow c) running 0 (nextObject c) 0 zs t only in
+      let g : ofObject d (nextObject c) runningLabel ≡ pos (nextRow c) =
+      ap (λ d. ofObject d (nextObject c) runningLabel) f ∙ new-running c long (object-left c left) k (nextRow c) running 0 (nextObject c) 0 zs t only in
+      (ap (λ i. nat (ofObject d i runningLabel)) n ∙ ap nat g, n)
+
+  -- `call`
+  pub issue-label : (x : Variable) (ex : Expression) (j : ℕ) (es : List Expression) (to : ℕ) (zs : List ℤ) → at .statement ≡ call x ex j es → (d : Cells)
+      → d ≡ written c (withCall c invoked o to j zs ++ (stored c o l x (pos (nextRow c)) ++ onward m c o l at)) → nat (held (here d o l) x) ≡ nextRow c
+  unfolding CodeWithin nat
+  issue-label x ex j es to zs s d e =
+      let q = withCall c invoked o to j zs in
+      let t = stored c o l x (pos (nextRow c)) ++ onward m c o l at in
+      let w = stands-within accepted c l at (r .stands) in
+      let code : CodeWithin (w .0) (length m) (call x ex j es) = subst (CodeWithin (w .0) (length m)) s (w .1) in
+      ap (λ d. nat (held (here d o l) x)) (e ∙ written-append c q t)
+      ∙ ap nat (stores-it (written c q) (length-written c q) x (w .2 x (code .0)) (pos (nextRow c)))
+
+  -- `get`: the label is the reply's, the line goes on, so that it is taken, and Y gets its value
+  pub take-label : (x y : Variable) (from : ℕ) → replyFor c o (held (here c o l) x) ≡ some from → (d : Cells)
+      → d ≡ written c (staged c from taken ++ (stored c o l y (ofCall c from value) ++ onward m c o l at)) → performing m c d o l (get x y) ≡ taking from ∷ []
+  unfolding performing eqZ nat
+  take-label x y from h d e =
+      let u = replied-for c o (held (here c o l) x) from h in
+      let before : ofCall c l line ≡ pos (at .at) = stood-at m c l at (r .stands) .line-is in
+      let after : ofCall d l line ≡ pos (at .at + 1) =
+      ap (λ d. ofCall d l line) (e ∙ ap (written c) (sym (append-assoc (staged c from taken) (stored c o l y (ofCall c from value)) (onward m c o l at))))
+      ∙ line-reads m c o l at c (all-cells m c is) (running-issued .0) label-few (staged c from taken ++ stored c o l y (ofCall c from value)) in
+      let differ : eqZ (ofCall c l line) (ofCall d l line) ≡ false =
+      ap (λ z. eqZ z (ofCall d l line)) before ∙ ap (eqZ (pos (at .at))) after ∙ ne-eqb (at .at) (at .at + 1) (λ s. omega arith) in
+      rw (differ, performing) (ap (λ z. taking (nat z) ∷ []) (u .label))
+
+  pub take-value : (x y : Variable) (from : ℕ) → at .statement ≡ get x y → (d : Cells)
+      → d ≡ written c (staged c from taken ++ (stored c o l y (ofCall c from value) ++ onward m c o l at)) → held (here d o l) y ≡ ofCall c from value
+  unfolding CodeWithin
+  take-value x y from s d e =
+      let w = stands-within accepted c l at (r .stands) in
+      let code : CodeWithin (w .0) (length m) (get x y) = subst (CodeWithin (w .0) (length m)) s (w .1) in
+      ap (λ d. held (here d o l) y) (e ∙ written-append c (staged c from taken) (stored c o l y (ofCall c from value) ++ onward m c o l at))
+      ∙ stores-it (written c (staged c from taken)) (length-written c (staged c from taken)) y (w .2 y (code .1)) (ofCall c from value)
