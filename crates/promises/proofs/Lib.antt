@@ -1,6 +1,7 @@
 -- The theorems over the definitions.
 pub mod Acting
 pub mod Acts
+pub mod Alive
 pub mod Configured
 pub mod Counted
 pub mod Kept

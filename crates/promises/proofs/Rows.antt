@@ -24,29 +24,29 @@ use Rattle.promises.proofs.Standings.{Fits}
 use Rattle.promises.proofs.Untouched.{AtOnly, written-append, only-append, only-call, only-object, only-row, untouched, reads-back, of-call-is, to-call-is, fieldIn, row-reads}
 
 -- places of calls, and places of objects
-unfoldable inCalls : Place → Bool
+unfoldable pub inCalls : Place → Bool
 inCalls (header i) = eqb i 1
 inCalls (object o f) = false
 inCalls (call r f) = true
 
-unfoldable inObjects : Place → Bool
+unfoldable pub inObjects : Place → Bool
 inObjects (header i) = false
 inObjects (object o f) = true
 inObjects (call r f) = false
 
 -- places other than stages, and places other than values
-unfoldable unstaged : Place → Bool
+unfoldable pub unstaged : Place → Bool
 unstaged (header i) = true
 unstaged (object o f) = true
 unstaged (call r f) = leb 1 f
 
-unfoldable valueless : Place → Bool
+unfoldable pub valueless : Place → Bool
 valueless (header i) = true
 valueless (object o f) = true
 valueless (call r f) = eqb f stage
 
 -- places of one field
-unfoldable atField : ℕ → Place → Bool
+unfoldable pub atField : ℕ → Place → Bool
 atField g p = eqb (fieldIn p) g
 
 -- the row of a new call, in cells that already hold something else of the step
