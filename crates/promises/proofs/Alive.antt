@@ -54,7 +54,7 @@ unfolding inStage
 staged-as c l s e = equal-is (stageOf c l) s e
 
 -- a call that goes from a stage to a stage
-turned : (c d : Cells) (k s t : ℕ) (life es : List Event) → stageOf c k ≡ pos s → stageOf d k ≡ pos t → ofCall d k caller ≡ ofCall c k caller
+pub turned : (c d : Cells) (k s t : ℕ) (life es : List Event) → stageOf c k ≡ pos s → stageOf d k ≡ pos t → ofCall d k caller ≡ ofCall c k caller
     → (LivedTo k (eqZ (ofCall c k caller) (pos 0)) s life → LivedTo k (eqZ (ofCall c k caller) (pos 0)) t (life ++ es)) → Living c k life → Living d k (life ++ es)
 turned c d k s t life es a b e on (n, i, h) =
     let same : n ≡ s = cc in

@@ -11,6 +11,7 @@ pub mod Open
 pub mod Rows
 pub mod Spared
 pub mod Standings
+pub mod StaysAlive
 pub mod Subjects
 pub mod Untouched
 pub mod Witness
