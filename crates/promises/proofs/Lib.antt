@@ -4,6 +4,7 @@ pub mod Acts
 pub mod Alive
 pub mod Configured
 pub mod Counted
+pub mod Happened
 pub mod Kept
 pub mod Lived
 pub mod Marked
