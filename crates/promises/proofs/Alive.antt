@@ -60,13 +60,14 @@ turned c d k s t life es a b e on (n, i, h) =
     let same : n ≡ s = cc in
     (t, b, subst (λ z. LivedTo k (eqZ z (pos 0)) t (life ++ es)) (sym e) (on (subst (λ n. LivedTo k (eqZ (ofCall c k caller) (pos 0)) n life) same h)))
 
+-- how many calls there are after a step
+pub rows-after : {m : Model} {c : Cells} {choice : Choice} {ws : List Write} {es : List Event} → Act m c choice ws es → isConfiguration m c ≡ true
+    → rowsInUse (written c ws) ≡ rowsInUse c + totalOf issuedBy es
+unfolding nat rowsInUse
+rows-after {m} {c} {choice} a is = ap nat (act-counted m c choice (all-cells m c is) (rowsInUse c) (calls-counted m c is .0) a)
+
 module _ {m : Model} {c : Cells} {choice : Choice} {ws : List Write} {es : List Event} (a : Act m c choice ws es) (is : isConfiguration m c ≡ true)
     (h : List Event) (alive : Alive c h) where
-  -- how many calls there are after it
-  pub rows-after : rowsInUse (written c ws) ≡ rowsInUse c + totalOf issuedBy es
-  unfolding nat rowsInUse
-  rows-after = ap nat (act-counted m c choice (all-cells m c is) (rowsInUse c) (calls-counted m c is .0) a)
-
   few : rowsInUse c ≤ callRows
   few = calls-counted m c is .2
 
@@ -87,10 +88,10 @@ module _ {m : Model} {c : Cells} {choice : Choice} {ws : List Write} {es : List 
       → Alive (written c ws) (h ++ es)
   moves-alive none others own = record {
     unborn = λ l n.
-        let not-issued : Issued c l → ⊥ = λ (low, high). n (low, omega (arith, rows-after)) in
+        let not-issued : Issued c l → ⊥ = λ (low, high). n (low, omega (arith, rows-after a is)) in
         about-append l h es ∙ ap₂ _++_ (alive .unborn l not-issued) (others l (λ i e. not-issued i));
     living = λ l (low, high).
-        let i : Issued c l = (low, omega (arith, rows-after)) in
+        let i : Issued c l = (low, omega (arith, rows-after a is)) in
         by-label l (movedBy a)
         (λ e. subst (λ k. Living (written c ws) k (about k (h ++ es))) (sym e)
         (subst (Living (written c ws) (movedBy a)) (sym (about-append (movedBy a) h es))
@@ -117,10 +118,10 @@ module _ {m : Model} {c : Cells} {choice : Choice} {ws : List Write} {es : List 
       ∙ ap₂ _++_ (alive .unborn (rowsInUse c + 1) (λ (low, high). omega arith)) (ap (about (rowsInUse c + 1)) is-one ∙ about-own e (rowsInUse c + 1) sub) in
       record {
         unborn = λ l n′.
-            let not-next : l ≡ rowsInUse c + 1 → ⊥ = λ s. n′ (omega arith, omega (arith, rows-after)) in
-            about-append l h es ∙ ap₂ _++_ (alive .unborn l (λ (low, high). n′ (low, omega (arith, rows-after)))) (other l not-next);
+            let not-next : l ≡ rowsInUse c + 1 → ⊥ = λ s. n′ (omega arith, omega (arith, rows-after a is)) in
+            about-append l h es ∙ ap₂ _++_ (alive .unborn l (λ (low, high). n′ (low, omega (arith, rows-after a is)))) (other l not-next);
         living = λ l (low, high).
             by-label l (rowsInUse c + 1)
             (λ s. subst (λ k. Living (written c ws) k (about k (h ++ es))) (sym s) (subst (Living (written c ws) (rowsInUse c + 1)) (sym own) new))
-            (λ ne. lives-on l (low, omega (arith, rows-after)) (λ s. omega arith) (other l ne));
+            (λ ne. lives-on l (low, omega (arith, rows-after a is)) (λ s. omega arith) (other l ne));
       }

@@ -10,6 +10,7 @@ pub mod Lived
 pub mod Marked
 pub mod Open
 pub mod Rows
+pub mod Runs
 pub mod Spared
 pub mod Standings
 pub mod StaysAlive
