@@ -4,6 +4,7 @@ pub mod Acts
 pub mod Alive
 pub mod Configured
 pub mod Counted
+pub mod Demand3
 pub mod Happened
 pub mod Kept
 pub mod Lived

@@ -91,7 +91,8 @@ module _ (m : Model) {choices : List Choice} (s : StepOf choices) where
     pub method : ofCall d l Layout.method ≡ pos j
     pub args : ofCall d l Layout.args ≡ pos (length es)
 
-  -- a step in which an object takes the reply of a label: "whose call it was"
+-- a step in which an object takes the reply of a label
+module _ (m : Model) {choices : List Choice} (s : StepOf choices) where
   pub record TakenBy (l : ℕ) : Type 0 where
     pub object : ℕ
     pub label : ℕ
@@ -101,9 +102,8 @@ module _ (m : Model) {choices : List Choice} (s : StepOf choices) where
     -- the label was issued before, by that same object
     pub issue : StepOf (s .before)
     pub issued : happensIn m issue (issuing l)
-    pub issuer : ℕ
-    pub asked : Code.Code
-    pub issues : Performs m issue object issuer asked
+    pub asked : OneCall m issue (cellsBefore m s) l
+    pub asker : asked .object ≡ object
     -- its call returned before, by a line `return E`, and Y now holds the very value that E had there
     pub return : StepOf (s .before)
     pub returned : happensIn m return (returning l)
