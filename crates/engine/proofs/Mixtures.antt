@@ -9,10 +9,10 @@ use borrow.Author.Tests.{eq-eqb}
 use lib.Dec.{leb, eqb}
 use lib.IntN.{ℤ}
 use lib.ListN.{length}
-use Rattle.whole.specs.Refusals.{accepted, cellsNotAll, noConfiguration, answersDiffer, budgetTooLarge}
+use Rattle.whole.specs.Refusals.{accepted, noConfiguration, answersDiffer, budgetTooLarge}
 use Rattle.layout.specs.Layout.{Cells, allCells}
 use Rattle.terms.specs.Bytes.{Text}
-use Rattle.model.specs.Judge.{Judged, refusal, model, judged}
+use Rattle.model.specs.Judge.{model, judged}
 use Rattle.model.specs.Model.{Model}
 use Rattle.cells.specs.Configuration.{isConfiguration}
 use Rattle.cells.specs.Fresh.{fresh}

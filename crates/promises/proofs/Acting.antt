@@ -1,35 +1,35 @@
 -- Every accepted choice is one of the cases of Acts. Assumes nothing.
-use Prim.Native.Nat.{ℕ, zero, suc, _+_, _≤_}
+use Prim.Native.Nat.{ℕ, zero, suc, _≤_}
 use mathlib.Core.Bool.{Bool, true, false, _&&_}
-use mathlib.Core.List.{List, [], _∷_, _++_, map, append-assoc}
+use mathlib.Core.List.{List, [], _∷_, _++_, append-assoc}
 use mathlib.Core.Option.{Option, none, some}
-use mathlib.Core.Path.{_≡_, refl, sym, ap, subst, _∙_}
+use mathlib.Core.Path.{_≡_, refl, sym, ap, subst}
 use native.Mathlib.Omega.{arith}
 use lib.Dec.{leb}
 use lib.IntN.{ℤ, pos, negsuc}
 use lib.ListN.{length}
 use Rattle.whole.specs.declared.Worked.the-variants.{Value}
 use Rattle.whole.specs.Plain.{onlyIf, whenever}
-use Rattle.whole.specs.Whole.{isTrue, eqZ, nat, between}
+use Rattle.whole.specs.Whole.{isTrue, nat, between}
 use Rattle.whole.specs.Refusals.{notInvoked, notQueued, noSuchMethod, notBound, objectBusy, notReady, notAnswered, objectRowsFull, callRowsFull}
 use Rattle.layout.specs.Layout.{Cells, Write, written, ofObject, ofCall, toCall, runningLabel, callee, value}
 use Rattle.layout.specs.Stages.{invoked, queued, bound, running, answered, replied, taken, objectsInUse, labelOf, upTo, inStage, objectOf, replyFor, staged}
 use Rattle.terms.specs.declared.Variable.{Variable}
 use Rattle.terms.specs.Trees.{Expression}
-use Rattle.terms.specs.Values.{held, valueOf, guardOf}
+use Rattle.terms.specs.Values.{held, valueOf}
 use Rattle.code.specs.Statements.{Code, skip, set, new, call, get, await, if, else, fi, while, od, return, mapStatement}
 use Rattle.model.specs.Model.{Model, Method}
 use Rattle.cells.specs.Standing.{Standing, standingOf, bodyOf}
 use Rattle.rules.specs.declared.Choice.{Choice}
-use Rattle.rules.specs.Events.{Event, performing, executing, happening, eventsOf, issuing, spawning, arriving, binding, returning, delivering}
+use Rattle.rules.specs.Events.{performing, executing, happening, eventsOf, issuing, spawning, arriving, binding, returning, delivering}
 use Rattle.rules.specs.Exec.{here, stored, nextObject, nextRow, objectLeft, rowLeft, classRuns, withObject, withCall, workedOut, onward, jumped, assigned, made, created, issued, tookReply, freed, crossed, suspended, awaited, branched, stageReturned, returned, performed}
 use Rattle.rules.specs.Exec as Exec
 use Rattle.rules.specs.Kinds.{Kind, exec, arrive, bind, start, deliver, kindNumber, kindOf, inUse, choose}
 use Rattle.rules.specs.Messages as Messages
-use Rattle.rules.specs.Next.{Next, refused, moved, must, working, workingAll, cellsAfter}
+use Rattle.rules.specs.Next.{Next, refused, moved, cellsAfter}
 use Rattle.rules.specs.Step.{ruled, next}
 use Rattle.rules.proofs.Chosen.{up-to-some}
-use Rattle.promises.proofs.Acts.{must-moved, working-moved, all-moved, Running, Chosen, Act, goes, jumps, stores, crosses, creates, spawns, issues, takes, suspends, returns, arrives, binds, starts, delivers}
+use Rattle.promises.proofs.Acts.{must-moved, working-moved, all-moved, Running, Act, goes, jumps, stores, crosses, creates, spawns, issues, takes, suspends, returns, arrives, binds, starts, delivers}
 
 -- what moves is not refused
 moves : {A : Type 0} (n : ℕ) (ws : List Write) → refused n ≡ moved ws → A

@@ -1,33 +1,30 @@
 -- What an accepted choice does, by its kind and the statement of the line: what it writes, what happens to calls, and under which tests. Every
 -- theorem about steps goes through these cases. Assumes nothing.
-use Prim.Native.Nat.{ℕ, suc, _+_, _≤_}
+use Prim.Native.Nat.{ℕ, suc, _≤_}
 use mathlib.Core.Bool.{Bool, true, false}
 use mathlib.Core.List.{List, [], _∷_, _++_, map}
-use mathlib.Core.Option.{Option, none, some}
-use mathlib.Core.Path.{_≡_, refl, sym, ap, subst, _∙_}
+use mathlib.Core.Option.{some}
+use mathlib.Core.Path.{_≡_, refl, ap}
 use native.Mathlib.Omega.{arith}
 use lib.IntN.{ℤ, pos}
 use lib.ListN.{length}
 use Rattle.whole.specs.declared.Worked.{Worked}
 use Rattle.whole.specs.declared.Worked.the-variants.{Value, OutOfRange}
-use Rattle.whole.specs.Whole.{isTrue, eqZ, nat}
-use Rattle.layout.specs.Layout.{Cells, Write, written, ofObject, ofCall, toObject, toCall, runningLabel, line, cleared, value, callee}
-use Rattle.layout.specs.Stages.{invoked, queued, bound, running, answered, replied, taken, objectsInUse, rowsInUse, objectOf, labelOf, upTo, inStage, replyFor, staged}
+use Rattle.whole.specs.Whole.{nat}
+use Rattle.layout.specs.Layout.{Cells, Write, written, ofObject, ofCall, toCall, runningLabel, value, callee}
+use Rattle.layout.specs.Stages.{invoked, queued, bound, running, answered, replied, taken, objectsInUse, rowsInUse, objectOf, labelOf, inStage, replyFor, staged}
 use Rattle.terms.specs.declared.Variable.{Variable}
-use Rattle.terms.specs.Trees.{Expression, Guard}
-use Rattle.terms.specs.Values.{held, valueOf, guardOf}
+use Rattle.terms.specs.Trees.{Expression}
+use Rattle.terms.specs.Values.{held, valueOf}
 use Rattle.code.specs.Statements as Code
-use Rattle.model.specs.Model.{Model, Method}
-use Rattle.cells.specs.Standing.{Standing, standingOf, bodyOf}
+use Rattle.model.specs.Model.{Model}
+use Rattle.cells.specs.Standing.{Standing, standingOf}
 use Rattle.rules.specs.declared.Choice.{Choice}
-use Rattle.rules.specs.Events.{Event, issuing, spawning, arriving, binding, returning, delivering, taking, performing, executing, happening, eventsOf}
-use Rattle.rules.specs.Exec as Exec
-use Rattle.rules.specs.Exec.{here, stored, nextObject, nextRow, objectLeft, rowLeft, classRuns, withObject, withCall, workedOut, onward, jumped, made, freed, crossed, suspended, stageReturned, performed}
-use Rattle.rules.specs.Kinds.{Kind, exec, arrive, bind, start, deliver, kindOf, inUse, choose}
-use Rattle.rules.specs.Messages as Messages
-use Rattle.rules.specs.Messages.{ready, started, startIn}
-use Rattle.rules.specs.Next.{Next, refused, moved, must, working, workingAll, cellsAfter}
-use Rattle.rules.specs.Step.{ruled, next}
+use Rattle.rules.specs.Events.{Event, issuing, spawning, arriving, binding, returning, delivering, performing}
+use Rattle.rules.specs.Exec.{here, stored, nextObject, nextRow, objectLeft, rowLeft, withObject, withCall, onward, jumped, freed, crossed, suspended, stageReturned}
+use Rattle.rules.specs.Kinds.{Kind, exec, arrive, bind, start, deliver, choose}
+use Rattle.rules.specs.Messages.{started}
+use Rattle.rules.specs.Next.{Next, moved, must, working, workingAll}
 
 -- a test that had to pass did; a value that had to be worked out was; and so were several
 pub must-moved : (b : Bool) (n : ℕ) (k : Next) (ws : List Write) → must b n k ≡ moved ws → (b ≡ true) × (k ≡ moved ws)

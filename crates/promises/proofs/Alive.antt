@@ -1,39 +1,29 @@
 -- Every label has lived as its stage says, and what is not issued has not lived: each step keeps that. Assumes nothing.
 use Prim.Native.Nat.{ℕ, _+_, _≤_}
 use mathlib.Core.Bool.{Bool, true, false}
-use mathlib.Core.List.{List, [], _∷_, _++_, append-nil, append-assoc}
+use mathlib.Core.List.{List, [], _∷_, _++_, append-nil}
 use mathlib.Core.Path.{_≡_, refl, sym, ap, ap₂, subst, _∙_}
 use native.Mathlib.Omega.{arith}
 use borrow.Author.Tests.{eqb-true, eqb-false}
 use lib.Dec.{eqb}
-use lib.IntN.{ℤ, pos}
-use lib.ListN.{length}
+use lib.IntN.{pos}
 use Rattle.whole.specs.Lists.{totalOf}
 use Rattle.whole.specs.Whole.{eqZ, nat}
-use Rattle.layout.specs.Layout.{Cells, Place, call, callRows, read, Write, written, calls, ofCall, toCall, toObject, runningLabel, stage, caller, callee, cleared, value}
-use Rattle.layout.specs.Stages.{rowsInUse, stageOf, inStage, staged, invoked, queued, bound, running, answered, replied, taken, nobody}
-use Rattle.layout.proofs.Laws.{length-written}
-use Rattle.code.specs.Statements.{get}
-use Rattle.model.specs.Accepted.{AcceptedModel}
+use Rattle.layout.specs.Layout.{Cells, callRows, Write, written, ofCall, caller}
+use Rattle.layout.specs.Stages.{rowsInUse, stageOf, inStage}
 use Rattle.model.specs.Model.{Model}
 use Rattle.cells.specs.Configuration.{isConfiguration}
-use Rattle.cells.specs.Standing.{Standing}
 use Rattle.rules.specs.declared.Choice.{Choice}
-use Rattle.rules.specs.Events.{Event, issuing, spawning, arriving, binding, returning, delivering, taking, performing}
-use Rattle.rules.specs.Exec.{here, stored, nextObject, nextRow, withObject, withCall, onward, jumped, crossed, suspended, freed, stageReturned}
-use Rattle.rules.specs.Messages.{started}
-use Rattle.terms.specs.Values.{held}
+use Rattle.rules.specs.Events.{Event}
+use Rattle.rules.specs.Exec.{nextRow}
 use Rattle.promises.specs.Histories.{subject, about}
 use Rattle.promises.specs.Lives.{Issued, issuedBy}
-use Rattle.promises.proofs.Acts.{Act, goes, jumps, stores, crosses, creates, spawns, issues, takes, suspends, returns, arrives, binds, starts, delivers}
+use Rattle.promises.proofs.Acts.{Act}
 use Rattle.promises.proofs.Configured.{equal-is, all-cells, calls-counted}
 use Rattle.promises.proofs.Counted.{act-counted}
 use Rattle.promises.proofs.Kept.{kept-caller, kept-stage}
-use Rattle.promises.proofs.Lived.{LivedTo, Living, about-own, about-other, about-append, on-arriving, on-binding, on-delivering, on-taking, on-returning, on-ending, on-suspending, on-starting}
-use Rattle.promises.proofs.Rows.{new-call, stage-reads, unstaged}
-use Rattle.promises.proofs.Spared.{movedBy, scratch, ownField, tail-scratch}
-use Rattle.promises.proofs.Subjects.{row-left, replied-for, running-issued, running-stage, spawn-label, issue-label, take-label}
-use Rattle.promises.proofs.Untouched.{AtOnly, written-append, only-append, only-call, only-object}
+use Rattle.promises.proofs.Lived.{LivedTo, Living, about-own, about-other, about-append}
+use Rattle.promises.proofs.Spared.{movedBy}
 
 -- the lives of all labels, in some cells and after some history
 pub record Alive (c : Cells) (h : List Event) : Type 0 where

@@ -8,7 +8,7 @@ use lib.IntN.{ℤ, pos}
 use lib.ListN.{length, replicate}
 use Rattle.whole.specs.Lists.{totalOf}
 use Rattle.whole.specs.Whole.{eqZ, nat}
-use Rattle.layout.specs.Layout.{Cells, Place, header, call, allCells, read, Write, written, calls, ofCall, toCall, toObject, runningLabel, cleared, callee, value, line, newCall}
+use Rattle.layout.specs.Layout.{Cells, call, allCells, read, Write, written, calls, ofCall, toCall, toObject, runningLabel, cleared, callee, value, line, newCall}
 use Rattle.layout.specs.Stages.{rowsInUse, staged, invoked, queued, bound, running, replied, taken}
 use Rattle.layout.proofs.Laws.{length-written}
 use Rattle.layout.proofs.Open.{layout-open}
@@ -23,11 +23,11 @@ use Rattle.rules.specs.Messages.{started}
 use Rattle.rules.specs.Next.{Next, refused, moved, cellsAfter}
 use Rattle.rules.specs.Step.{next}
 use Rattle.engine.specs.Run.{runCells}
-use Rattle.promises.specs.Histories.{cellsAt, happenings, history}
+use Rattle.promises.specs.Histories.{happenings, history}
 use Rattle.promises.specs.Lives.{issuedBy, CallsIssued}
 use Rattle.promises.proofs.Acting.{acts}
 use Rattle.promises.proofs.Acts.{Act, goes, jumps, stores, crosses, creates, spawns, issues, takes, suspends, returns, arrives, binds, starts, delivers}
-use Rattle.promises.proofs.Spared.{uncounted, uncounts, onward-scratch, jumped-scratch, tail-scratch, crossed-scratch, tail-uncounted, new-object-uncounted, staged-uncounted}
+use Rattle.promises.proofs.Spared.{uncounted, uncounts, onward-scratch, jumped-scratch, crossed-scratch, tail-uncounted, new-object-uncounted, staged-uncounted}
 use Rattle.promises.proofs.Untouched.{AtOnly, written-append, only-append, only-call, only-object, only-row, untouched, reads-back}
 
 -- the cells after a choice are as many as before

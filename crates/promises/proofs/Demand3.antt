@@ -1,20 +1,22 @@
 -- Demand 3 holds after every list of choices. Assumes nothing; that the fresh cells are a configuration and that a step keeps one are parameters.
-use Prim.Native.Nat.{ℕ, _+_, _≤_}
-use mathlib.Core.Bool.{Bool, true, false}
+use Prim.Native.Nat.{ℕ, _≤_}
+use mathlib.Core.Bool.{true, false}
 use mathlib.Core.List.{List, [], _∷_, _++_, map}
 use mathlib.Core.Logic.{_⊎_, inl, inr}
 use mathlib.Core.Path.{_≡_, refl, sym, ap, subst, _∙_}
 use native.Mathlib.Omega.{arith}
 use borrow.Author.Tests.{ne-eqb}
-use lib.IntN.{ℤ, pos}
+use lib.IntN.{pos}
 use lib.ListN.{length}
 use Rattle.whole.specs.declared.Worked.the-variants.{Value}
 use Rattle.whole.specs.Whole.{eqZ}
-use Rattle.layout.specs.Layout.{Cells, ofCall, caller, callee, value}
+use Rattle.layout.specs.Layout.{Cells, allCells, ofCall, caller, callee, value}
 use Rattle.layout.specs.Stages.{rowsInUse, objectsInUse, labelOf, stageOf, replied}
 use Rattle.layout.proofs.Open.{layout-open}
+use Rattle.terms.specs.Bytes.{Text}
 use Rattle.code.specs.Statements.{Code}
 use Rattle.model.specs.Accepted.{AcceptedModel}
+use Rattle.model.specs.Judge.{model, judged}
 use Rattle.model.specs.Model.{Model}
 use Rattle.cells.specs.Configuration.{isConfiguration}
 use Rattle.cells.specs.Fresh.{fresh}
@@ -24,16 +26,18 @@ use Rattle.rules.specs.Events.{Event, issuing, spawning, returning, taking, eve
 use Rattle.rules.specs.Next.{cellsAfter}
 use Rattle.rules.specs.Step.{next}
 use Rattle.engine.specs.Run.{runCells}
-use Rattle.engine.proofs.Mixtures.{run-append}
+use Rattle.engine.specs.Entries.{start}
+use Rattle.engine.proofs.Mixtures.{Entry, leaveAll, run-append, mixture-run}
 use Rattle.promises.specs.Histories.{cellsAt, happenings, history, subject, about, Among, StepOf, cellsBefore, cellsNext, happensIn, Performs}
-use Rattle.promises.specs.Lives.{Issued, issuedLife, OneCall, TakenBy, CallerLess, stagesAfter, Demand3}
+use Rattle.promises.specs.Lives.{Issued, OneCall, TakenBy, CallerLess, stagesAfter, Demand3}
 use Rattle.promises.proofs.Acting.{up-to-is}
 use Rattle.promises.proofs.Acts.{Running}
 use Rattle.promises.proofs.Alive.{Alive}
+use Rattle.promises.proofs.Amongst.{among-right, among-cases, about-among}
 use Rattle.promises.proofs.Configured.{runs-what, named-by}
 use Rattle.promises.proofs.Happened.{Happened, IssuedNow, SpawnedNow, ReturnedNow, TakenNow}
 use Rattle.promises.proofs.Lived.{LivedTo, Living, lived-begun, lived-staged}
-use Rattle.promises.proofs.Runs.{among-right, among-cases, about-among, issued-of, SameCall, run-configured, step-alive, step-happened, run-alive, run-same, run-value, fresh-alive, step-of}
+use Rattle.promises.proofs.Runs.{issued-of, SameCall, run-configured, step-alive, step-happened, run-alive, run-same, run-value, fresh-alive, step-of}
 
 -- a running call performs its line
 performs-of : (m : Model) {choices : List Choice} (s : StepOf choices) (o l : ℕ) (at : Standing) (line : Code) → Running m (cellsBefore m s) (s .choice) o l at
@@ -196,3 +200,8 @@ module _ (m : Model) (accepted : AcceptedModel m) (fresh-is : isConfiguration m 
         runs = runs-what m (cellsAt m choices) is;
         named = λ l (low, high) s. named-by m (cellsAt m choices) is l low high s;
       }
+
+  -- and so after every mixture of entries behind a start, refused ones among them: the cells are those of some choices, after which it holds
+  pub demand-3-entries : (text : Text) → judged text ≡ model m → (lent : Cells) → length lent ≡ allCells → (es : List Entry)
+      → (choices : List Choice) × (leaveAll text (start text lent .cells) es ≡ cellsAt m choices) × Demand3 m choices
+  demand-3-entries text is lent long es = let r = mixture-run text m is lent long es in (r .0, r .1, demand-3 (r .0))

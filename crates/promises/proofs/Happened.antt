@@ -1,15 +1,13 @@
 -- What a step that issues, spawns, returns or takes has done: who performed which line, and what stands in the cells after it. Assumes nothing.
 use Prim.Native.Nat.{ℕ, _≤_}
-use mathlib.Core.Bool.{Bool, true, false}
+use mathlib.Core.Bool.{true}
 use mathlib.Core.List.{List, [], _∷_, _++_, append-assoc}
 use mathlib.Core.Logic.{_⊎_, inl, inr}
-use mathlib.Core.Option.{some}
 use mathlib.Core.Path.{_≡_, refl, sym, ap, subst, _∙_}
 use native.Mathlib.Omega.{arith}
 use lib.IntN.{ℤ, pos}
 use lib.ListN.{length}
 use Rattle.whole.specs.declared.Worked.the-variants.{Value}
-use Rattle.whole.specs.Whole.{eqZ, nat}
 use Rattle.layout.specs.Layout.{Cells, callRows, Write, written, ofCall, toCall, toObject, runningLabel, value}
 use Rattle.layout.specs.Stages.{stageOf, objectOf, objectsInUse, staged, invoked, queued, bound, running, replied, taken}
 use Rattle.layout.proofs.Laws.{length-written}

@@ -2,6 +2,7 @@
 pub mod Acting
 pub mod Acts
 pub mod Alive
+pub mod Amongst
 pub mod Configured
 pub mod Counted
 pub mod Demand3

@@ -1,19 +1,19 @@
 -- A life by its stage: what has happened to a label that is in a stage, for a call that an object issued and for one that was spawned; how each
 -- event leads from stage to stage; and that the clauses (a) and (c) of demand 3 follow. Assumes nothing.
-use Prim.Native.Nat.{ℕ, zero, suc, _≤_}
+use Prim.Native.Nat.{ℕ, zero, suc}
 use mathlib.Core.Bool.{Bool, true, false}
 use mathlib.Core.List.{List, [], _∷_, _++_, map, append-nil}
 use mathlib.Core.Logic.{_⊎_, inl, inr}
-use mathlib.Core.Path.{_≡_, refl, sym, ap, subst, _∙_}
+use mathlib.Core.Path.{_≡_, refl, ap, _∙_}
 use native.Mathlib.Omega.{arith}
 use borrow.Author.Tests.{eq-eqb, ne-eqb}
 use lib.Dec.{eqb}
-use lib.IntN.{ℤ, pos}
-use lib.ListN.{length, take}
+use lib.IntN.{pos}
+use lib.ListN.{take}
 use Rattle.whole.specs.Whole.{eqZ}
 use Rattle.layout.specs.Layout.{Cells, ofCall, caller}
 use Rattle.layout.specs.Stages.{stageOf, invoked, queued, bound, running, answered, replied, taken}
-use Rattle.rules.specs.Events.{Event, issuing, spawning, arriving, binding, returning, delivering, taking}
+use Rattle.rules.specs.Events.{Event, arriving, binding, returning, delivering, taking}
 use Rattle.promises.specs.Histories.{subject, about, Among}
 use Rattle.promises.specs.Lives.{issuedLife, spawnedLife, BeginningOf, issuedStages, spawnedStages, lastFrom, stagesFrom, stagesAfter}
 

@@ -1,27 +1,27 @@
 -- What a step writes reads back: a new call's row, a new object's running label, a stored variable, a line, and the stage of the call that moves.
 -- Assumes nothing.
-use Prim.Native.Nat.{ℕ, suc, _+_, _≤_, _<_}
-use mathlib.Core.Bool.{Bool, true, false, _&&_, _||_}
+use Prim.Native.Nat.{ℕ, _+_, _≤_, _<_}
+use mathlib.Core.Bool.{Bool, true, false}
 use mathlib.Core.List.{List, [], _∷_, _++_}
-use mathlib.Core.Path.{_≡_, refl, sym, ap, subst, _∙_}
+use mathlib.Core.Path.{_≡_, refl, sym, ap, _∙_}
 use native.Mathlib.Omega.{arith}
-use borrow.Author.Tests.{lt-leb, ne-eqb}
+use borrow.Author.Tests.{ne-eqb}
 use lib.Dec.{leb, eqb}
 use lib.IntN.{ℤ, pos}
 use lib.ListN.{length, getD}
 use Rattle.whole.specs.Whole.{nat}
-use Rattle.layout.specs.Layout.{Cells, Place, header, object, call, allCells, objectRows, callRows, mostAttributes, mostLocals, read, write, Write, written, objects, calls, ofObject, toObject, ofCall, toCall, class, runningLabel, attribute, stage, caller, callee, method, args, line, cleared, value, local, padded, newObject, newCall}
+use Rattle.layout.specs.Layout.{Cells, Place, header, object, call, allCells, objectRows, callRows, mostAttributes, mostLocals, read, write, Write, written, objects, calls, ofObject, toObject, ofCall, toCall, runningLabel, attribute, stage, caller, callee, method, args, line, value, local, padded, newObject, newCall}
 use Rattle.layout.specs.Stages.{rowsInUse, objectsInUse, staged, stageOf}
-use Rattle.layout.proofs.Laws.{Stands, length-write, length-written}
+use Rattle.layout.proofs.Laws.{length-write, length-written}
 use Rattle.terms.specs.declared.Variable.{Variable}
 use Rattle.terms.specs.declared.Variable.the-variants.{Attribute, Local}
 use Rattle.terms.specs.Values.{held}
 use Rattle.model.specs.Model.{Model}
 use Rattle.cells.specs.Standing.{Standing}
 use Rattle.rules.specs.Exec.{here, stored, nextObject, nextRow, withObject, withCall, onward}
-use Rattle.promises.proofs.Spared.{scratch, ownField, tail-scratch, onward-scratch}
+use Rattle.promises.proofs.Spared.{scratch, ownField}
 use Rattle.promises.proofs.Standings.{Fits}
-use Rattle.promises.proofs.Untouched.{AtOnly, written-append, only-append, only-call, only-object, only-row, untouched, reads-back, of-call-is, to-call-is, fieldIn, row-reads}
+use Rattle.promises.proofs.Untouched.{AtOnly, written-append, only-call, only-row, untouched, reads-back, of-call-is, to-call-is, fieldIn, row-reads}
 
 -- places of calls, and places of objects
 unfoldable pub inCalls : Place → Bool

@@ -1,16 +1,16 @@
 -- What holds along a whole run: configurations, lives, and the rows of calls that were issued. Assumes nothing; that a step keeps a configuration is a
 -- parameter.
-use Prim.Native.Nat.{ℕ, zero, suc, _+_, _≤_}
+use Prim.Native.Nat.{ℕ, _≤_}
 use mathlib.Core.Bool.{Bool, true, false}
 use mathlib.Core.List.{List, [], _∷_, _++_, append-nil, append-assoc}
 use mathlib.Core.Logic.{_⊎_, inl, inr}
 use mathlib.Core.Path.{_≡_, refl, sym, ap, subst, _∙_}
 use native.Mathlib.Omega.{arith}
-use borrow.Author.Tests.{leb-true, leb-false, eq-eqb}
-use lib.Dec.{leb, eqb}
-use lib.IntN.{ℤ, pos}
+use borrow.Author.Tests.{leb-true, leb-false}
+use lib.Dec.{leb}
+use lib.IntN.{pos}
 use Rattle.whole.specs.Whole.{eqZ}
-use Rattle.layout.specs.Layout.{Cells, callRows, Write, written, ofCall, caller, callee, method, args, value}
+use Rattle.layout.specs.Layout.{Cells, callRows, Write, ofCall, caller, callee, method, args, value}
 use Rattle.layout.specs.Stages.{rowsInUse, stageOf, running}
 use Rattle.layout.proofs.Open.{layout-open}
 use Rattle.model.specs.Accepted.{AcceptedModel}
@@ -23,63 +23,18 @@ use Rattle.rules.specs.Next.{Next, refused, moved, cellsAfter}
 use Rattle.rules.specs.Step.{next}
 use Rattle.engine.specs.Run.{runCells}
 use Rattle.engine.proofs.Mixtures.{run-append}
-use Rattle.promises.specs.Histories.{cellsAt, happenings, history, subject, about, Among, StepOf, cellsBefore, cellsNext, happensIn}
+use Rattle.promises.specs.Histories.{cellsAt, happenings, subject, about, Among, StepOf, happensIn}
 use Rattle.promises.specs.Lives.{Issued}
 use Rattle.promises.proofs.Acting.{acts}
 use Rattle.promises.proofs.Acts.{Act}
 use Rattle.promises.proofs.Alive.{Alive, rows-after}
+use Rattle.promises.proofs.Amongst.{among-left, among-cases, among-about}
 use Rattle.promises.proofs.Configured.{calls-counted}
 use Rattle.promises.proofs.Happened.{Happened, what-happened, answers}
 use Rattle.promises.proofs.Kept.{kept-caller, kept-callee, kept-method, kept-args, kept-value}
 use Rattle.promises.proofs.Lived.{LivedTo, Living, about-own, about-other}
 use Rattle.promises.proofs.Spared.{answeredBy}
 use Rattle.promises.proofs.StaysAlive.{act-alive}
-
--- an event of two lists, of either, and of those about its label
-module _ (e : Event) where
-  pub among-right : (a b : List Event) → Among e b → Among e (a ++ b)
-  among-right [] b h = h
-  among-right (f ∷ a) b h = inr (among-right a b h)
-
-  pub among-cases : (a b : List Event) → Among e (a ++ b) → Among e a ⊎ Among e b
-  among-cases [] b h = inr h
-  among-cases (f ∷ a) b (inl s) = inl (inl s)
-  among-cases (f ∷ a) b (inr h) = go (among-cases a b h)
-    where
-      go : Among e a ⊎ Among e b → Among e (f ∷ a) ⊎ Among e b
-      go (inl h) = inl (inr h)
-      go (inr h) = inr h
-
-  among-left : (a b : List Event) → Among e a → Among e (a ++ b)
-  among-left [] b h = absurd h
-  among-left (f ∷ a) b (inl s) = inl s
-  among-left (f ∷ a) b (inr h) = inr (among-left a b h)
-
-  pub among-about : (h : List Event) → Among e h → Among e (about (subject e) h)
-  unfolding about
-  among-about [] i = absurd i
-  among-about (f ∷ h) (inl s) = rw (eq-eqb (subject f) (subject e) (ap subject (sym s)), about) (inl s)
-  among-about (f ∷ h) (inr i) = go (eqb (subject f) (subject e)) refl (among-about h i)
-    where
-      go : (b : Bool) → eqb (subject f) (subject e) ≡ b → Among e (about (subject e) h) → Among e (about (subject e) (f ∷ h))
-      go true t later = rw (t, about) (inr later)
-      go false t later = rw (t, about) later
-
-  pub about-among : (l : ℕ) (h : List Event) → Among e (about l h) → Among e h
-  unfolding about
-  about-among l [] i = i
-  about-among l (f ∷ h) i = go (eqb (subject f) l) refl (about-among l h)
-    where
-      later : (b : Bool) → eqb (subject f) l ≡ b → Among e (about l (f ∷ h)) → (e ≡ f) ⊎ Among e (about l h)
-      later true t i = rw (t, about) at i
-      later false t i = inr (rw (t, about) at i)
-
-      go : (b : Bool) → eqb (subject f) l ≡ b → (Among e (about l h) → Among e h) → Among e (f ∷ h)
-      go b t rest = by (later b t i)
-        where
-          by : (e ≡ f) ⊎ Among e (about l h) → Among e (f ∷ h)
-          by (inl s) = inl s
-          by (inr k) = inr (rest k)
 
 -- a label with an event is issued
 pub issued-of : {c : Cells} {h : List Event} → Alive c h → (e : Event) → Among e h → Issued c (subject e)

@@ -1,15 +1,14 @@
 -- What a step spares: of a call that was issued before it, caller, callee, method and args for good, its stage and value unless the step moves or
 -- answers that very call; and the count of calls, unless it issues one. Assumes nothing.
-use Prim.Native.Nat.{ℕ, zero, suc, _+_, _≤_, _<_}
+use Prim.Native.Nat.{ℕ, _+_}
 use mathlib.Core.Bool.{Bool, true, false, _&&_, _||_}
 use mathlib.Core.List.{List, [], _∷_, _++_}
-use mathlib.Core.Path.{_≡_, refl, sym, ap, ap₂, subst, _∙_}
+use mathlib.Core.Path.{_≡_, refl}
 use native.Mathlib.Omega.{arith}
-use borrow.Author.Tests.{lt-ltb, le-ltb, le-leb, lt-leb, eq-eqb, ne-eqb}
+use borrow.Author.Tests.{lt-ltb, le-leb, eq-eqb}
 use lib.Dec.{ltb, leb, eqb}
 use lib.IntN.{ℤ, pos}
-use lib.ListN.{length}
-use Rattle.layout.specs.Layout.{Cells, Place, header, object, call, callRows, Write, written, read, ofCall, toCall, toObject, runningLabel, calls, objects, attribute, stage, caller, callee, method, args, line, cleared, value, local, newObject, newCall}
+use Rattle.layout.specs.Layout.{Cells, Place, header, object, call, Write, ofCall, toCall, toObject, runningLabel, attribute, stage, callee, line, cleared, value, local, newObject, newCall}
 use Rattle.whole.specs.Whole.{nat}
 use Rattle.layout.specs.Stages.{rowsInUse, staged, invoked, queued, bound, running, replied, taken}
 use Rattle.terms.specs.declared.Variable.{Variable}
@@ -21,7 +20,7 @@ use Rattle.rules.specs.Events.{Event}
 use Rattle.rules.specs.Exec.{stored, nextObject, nextRow, withObject, withCall, onward, jumped, crossed, suspended, freed, stageReturned}
 use Rattle.rules.specs.Messages.{started}
 use Rattle.promises.proofs.Acts.{Act, goes, jumps, stores, crosses, creates, spawns, issues, takes, suspends, returns, arrives, binds, starts, delivers}
-use Rattle.promises.proofs.Untouched.{AtOnly, only-append, only-call, only-object, only-row, untouched, of-call-is}
+use Rattle.promises.proofs.Untouched.{AtOnly, only-append, only-call, only-object, only-row}
 
 -- what the lines of a method change in their own call: line, cleared, and the variables
 unfoldable pub ownField : ℕ → Bool

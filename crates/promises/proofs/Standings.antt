@@ -1,9 +1,8 @@
 -- Where a running call stands: the number of its line, and a statement of the model, so that its variables are among those that a row has.
 -- Assumes nothing.
 use Prim.Native.Nat.{ℕ, _<_}
-use mathlib.Core.List.{List}
 use mathlib.Core.Option.{Option, none, some}
-use mathlib.Core.Path.{_≡_, refl, sym, ap, subst, _∙_}
+use mathlib.Core.Path.{_≡_, refl, ap, subst, _∙_}
 use native.Mathlib.Omega.{arith}
 use lib.Dec.{eqb}
 use mathlib.Core.Bool.{Bool, true, false}
@@ -16,7 +15,6 @@ use Rattle.terms.specs.declared.Limits.{Limits}
 use Rattle.terms.specs.declared.Variable.{Variable}
 use Rattle.terms.specs.declared.Variable.the-variants.{Attribute, Local}
 use Rattle.terms.specs.Within.{VariableWithin}
-use Rattle.code.specs.Statements.{Code}
 use Rattle.code.specs.Within.{CodeWithin}
 use Rattle.model.specs.Accepted.{AcceptedModel, AcceptedMethod, AcceptedClass}
 use Rattle.model.specs.Model.{Model, Class, Method, bindsTo, methodOf, takes}

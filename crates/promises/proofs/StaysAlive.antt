@@ -6,27 +6,25 @@ use mathlib.Core.Path.{_≡_, refl, sym, ap, subst, _∙_}
 use native.Mathlib.Omega.{arith}
 use borrow.Author.Tests.{ne-eqb}
 use lib.IntN.{ℤ, pos}
-use lib.ListN.{length}
 use Rattle.whole.specs.Lists.{totalOf}
 use Rattle.whole.specs.Whole.{eqZ, nat}
-use Rattle.layout.specs.Layout.{Cells, allCells, Place, call, callRows, Write, written, ofCall, toCall, toObject, runningLabel, caller, callee, cleared, value}
-use Rattle.layout.specs.Stages.{rowsInUse, stageOf, inStage, staged, invoked, queued, bound, running, answered, replied, taken, nobody}
+use Rattle.layout.specs.Layout.{Cells, Place, call, callRows, Write, written, ofCall, toCall, toObject, runningLabel, caller, callee, cleared, value}
+use Rattle.layout.specs.Stages.{stageOf, staged, invoked, queued, bound, running, answered, replied, taken}
 use Rattle.layout.proofs.Laws.{length-written}
-use Rattle.code.specs.Statements.{get}
 use Rattle.model.specs.Accepted.{AcceptedModel}
 use Rattle.model.specs.Model.{Model}
 use Rattle.cells.specs.Configuration.{isConfiguration}
 use Rattle.cells.specs.Standing.{Standing}
 use Rattle.rules.specs.declared.Choice.{Choice}
-use Rattle.rules.specs.Events.{Event, issuing, spawning, arriving, binding, returning, delivering, taking, performing}
-use Rattle.rules.specs.Exec.{here, stored, nextObject, nextRow, withObject, withCall, onward, suspended, freed, stageReturned}
+use Rattle.rules.specs.Events.{Event, issuing, spawning, arriving, binding, returning, delivering, taking}
+use Rattle.rules.specs.Exec.{stored, nextObject, nextRow, withObject, withCall, onward, suspended, freed, stageReturned}
 use Rattle.rules.specs.Kinds.{Kind}
 use Rattle.rules.specs.Messages.{started}
 use Rattle.promises.specs.Histories.{subject, about}
 use Rattle.promises.specs.Lives.{Issued, issuedBy}
-use Rattle.promises.proofs.Acts.{Act, Running, Chosen, goes, jumps, stores, crosses, creates, spawns, issues, takes, suspends, returns, arrives, binds, starts, delivers}
+use Rattle.promises.proofs.Acts.{Act, Chosen, goes, jumps, stores, crosses, creates, spawns, issues, takes, suspends, returns, arrives, binds, starts, delivers}
 use Rattle.promises.proofs.Alive.{Alive, staged-as, turned, moves-alive, still-alive, grows-alive}
-use Rattle.promises.proofs.Configured.{all-cells, calls-counted, objects-counted}
+use Rattle.promises.proofs.Configured.{all-cells, calls-counted}
 use Rattle.promises.proofs.Kept.{kept-caller}
 use Rattle.promises.proofs.Lived.{LivedTo, Living, about-own, about-other, on-arriving, on-binding, on-delivering, on-taking, on-returning, on-ending, on-suspending, on-starting}
 use Rattle.promises.proofs.Rows.{new-call, stage-reads, unstaged}

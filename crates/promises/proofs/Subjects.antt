@@ -1,13 +1,12 @@
 -- Whom the events are about: a `call` and a `new` of a class with run 1 are about the next label, and a `get` about the label whose reply it takes.
 -- Assumes nothing.
-use Prim.Native.Nat.{ℕ, _+_, _≤_, _<_}
-use mathlib.Core.Bool.{Bool, true, false, _&&_}
+use Prim.Native.Nat.{ℕ, _+_, _≤_}
+use mathlib.Core.Bool.{Bool, true, false}
 use mathlib.Core.List.{List, [], _∷_, _++_, append-assoc}
 use mathlib.Core.Option.{Option, none, some}
 use mathlib.Core.Path.{_≡_, refl, sym, ap, subst, _∙_}
 use native.Mathlib.Omega.{arith}
 use borrow.Author.Tests.{ltb-true, ne-eqb}
-use lib.Dec.{eqb}
 use lib.IntN.{ℤ, pos}
 use lib.ListN.{length}
 use Rattle.whole.specs.Plain.{onlyIf}
@@ -19,21 +18,21 @@ use Rattle.layout.proofs.Laws.{length-written}
 use Rattle.terms.specs.declared.Variable.{Variable}
 use Rattle.terms.specs.Trees.{Expression}
 use Rattle.terms.specs.Values.{held}
-use Rattle.code.specs.Statements.{Code, call, get}
+use Rattle.code.specs.Statements.{call, get}
 use Rattle.code.specs.Within.{CodeWithin}
 use Rattle.model.specs.Accepted.{AcceptedModel}
 use Rattle.model.specs.Model.{Model}
 use Rattle.cells.specs.Configuration.{isConfiguration}
-use Rattle.cells.specs.Standing.{Standing, standingOf}
+use Rattle.cells.specs.Standing.{Standing}
 use Rattle.rules.specs.declared.Choice.{Choice}
-use Rattle.rules.specs.Events.{Event, taking, performing}
+use Rattle.rules.specs.Events.{taking, performing}
 use Rattle.rules.specs.Exec.{here, stored, nextObject, nextRow, objectLeft, rowLeft, withObject, withCall, onward}
 use Rattle.rules.proofs.Chosen.{up-to-some}
 use Rattle.promises.specs.Lives.{Issued}
 use Rattle.promises.proofs.Acting.{up-to-is}
 use Rattle.promises.proofs.Acts.{Running}
 use Rattle.promises.proofs.Configured.{equal-is, all-cells, objects-counted, calls-counted, runs-stage}
-use Rattle.promises.proofs.Rows.{NewCall, new-call, new-count, new-running, stored-reads, line-reads}
+use Rattle.promises.proofs.Rows.{new-count, new-running, stored-reads, line-reads}
 use Rattle.promises.proofs.Spared.{tail-scratch}
 use Rattle.promises.proofs.Standings.{Fits, stood-at, stands-within}
 use Rattle.promises.proofs.Untouched.{written-append}

@@ -3,7 +3,7 @@
 use Prim.Native.Nat.{ℕ, zero, suc, _+_, _≤_, _<_}
 use mathlib.Core.Bool.{Bool, true, false, false≢true}
 use mathlib.Core.List.{List, [], _∷_, _++_}
-use mathlib.Core.Option.{Option, none, some}
+use mathlib.Core.Option.{some}
 use mathlib.Core.Path.{_≡_, refl, sym, ap, subst, _∙_}
 use native.Mathlib.Omega.{arith}
 use borrow.Author.Tests.{lt-ltb, le-ltb}
@@ -11,8 +11,8 @@ use lib.Dec.{ltb}
 use lib.IntN.{ℤ, pos}
 use lib.ListN.{length, getD}
 use Rattle.whole.specs.Plain.{onlyIf}
-use Rattle.layout.specs.Layout.{Cells, Place, header, object, call, allCells, callRows, isRow, read, write, Write, written, rowOf, ofCall, toCall, ofObject, toObject, rowFrom}
-use Rattle.layout.proofs.Laws.{Stands, within-row, read-write-same, read-write-other, length-write, length-written}
+use Rattle.layout.specs.Layout.{Cells, Place, header, object, call, allCells, callRows, isRow, read, write, Write, written, rowOf, ofCall, toCall, toObject, rowFrom}
+use Rattle.layout.proofs.Laws.{Stands, within-row, read-write-same, read-write-other, length-write}
 
 -- writes one behind the other
 pub written-append : (c : Cells) (a b : List Write) → written c (a ++ b) ≡ written (written c a) b
