@@ -95,6 +95,7 @@ module _ (s : Text) (m : Model) (is : judged s ≡ model m) (c : Cells) (answers
       by-length false e = rw (is, onModel, e) (stays m c c refl)
 
 module _ (s : Text) (m : Model) (is : judged s ≡ model m) (c : Cells) (answers : List ℤ) (go : Model → Outcome) where
+  -- the same behind the test of the configuration
   on-configuration : RunTo m c (go m .cells) → RunTo m c (onConfiguration s c answers go .cells)
   unfolding onConfiguration outcome
   on-configuration r = on-model s m is c answers _ (by-test (isConfiguration m c) refl)

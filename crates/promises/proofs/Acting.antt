@@ -37,15 +37,18 @@ moves n ws e = absurd (let z : _≡_ {A = ℕ} 0 1 = cc in omega arith)
 
 -- a running call's line
 module _ (m : Model) (c : Cells) (choice : Choice) (o l : ℕ) (at : Standing) (r : Running m c choice o l at) where
+  -- what `new` makes of a class with run 1
   made-run : (k : ℕ) (zs : List ℤ) → classRuns m k ≡ true
       → made m c o l at k zs ≡ withObject c k (nextRow c) zs ++ withCall c running 0 (nextObject c) 0 []
   unfolding made
   made-run k zs h = rw (h, made)
 
+  -- and of one with run 0
   made-still : (k : ℕ) (zs : List ℤ) → classRuns m k ≡ false → made m c o l at k zs ≡ withObject c k 0 zs
   unfolding made
   made-still k zs h = rw (h, made)
 
+  -- `if` and `while`, by their value
   branches : (z : ℤ) (ws : List Write) → branched m c o l at z ≡ moved ws → Act m c choice ws []
   unfolding branched
   branches z ws e = go (isTrue z) refl
@@ -54,6 +57,7 @@ module _ (m : Model) (c : Cells) (choice : Choice) (o l : ℕ) (at : Standing) (
       go true h = let f : onward m c o l at ≡ ws = cc (rw (h, branched) at e) in subst (λ w. Act m c choice w []) f (goes o l at r)
       go false h = let f : jumped m c o l at ≡ ws = cc (rw (h, branched) at e) in subst (λ w. Act m c choice w []) f (jumps o l at r)
 
+  -- `await`, by its guard
   awaits : (z : ℤ) (ws : List Write) → awaited m c o l at z ≡ moved ws → Act m c choice ws []
   unfolding awaited
   awaits z ws e = go (isTrue z) refl

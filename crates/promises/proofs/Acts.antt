@@ -26,17 +26,19 @@ use Rattle.rules.specs.Kinds.{Kind, exec, arrive, bind, start, deliver, choose}
 use Rattle.rules.specs.Messages.{started}
 use Rattle.rules.specs.Next.{Next, moved, must, working, workingAll}
 
--- a test that had to pass did; a value that had to be worked out was; and so were several
+-- a test that had to pass did
 pub must-moved : (b : Bool) (n : ℕ) (k : Next) (ws : List Write) → must b n k ≡ moved ws → (b ≡ true) × (k ≡ moved ws)
 unfolding must
 must-moved true n k ws e = (refl, e)
 must-moved false n k ws e = absurd (let z : _≡_ {A = ℕ} 0 1 = cc in omega arith)
 
+-- a value that had to be worked out was
 pub working-moved : (w : Worked) (k : ℤ → Next) (ws : List Write) → working w k ≡ moved ws → (z : ℤ) × (w ≡ Value z) × (k z ≡ moved ws)
 unfolding working
 working-moved (Value z) k ws e = (z, refl, e)
 working-moved OutOfRange k ws e = absurd (let z : _≡_ {A = ℕ} 0 1 = cc in omega arith)
 
+-- and so were several
 pub all-moved : (es : List Expression) (f : Expression → Worked) (k : List ℤ → Next) (ws : List Write) → workingAll (map f es) k ≡ moved ws
     → (zs : List ℤ) × (length zs ≡ length es) × (k zs ≡ moved ws)
 unfolding workingAll

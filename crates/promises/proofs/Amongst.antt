@@ -11,10 +11,12 @@ use Rattle.promises.specs.Histories.{subject, about, Among}
 
 -- an event of two lists, of either, and of those about its label
 module _ (e : Event) where
+  -- one of the second of two lists
   pub among-right : (a b : List Event) → Among e b → Among e (a ++ b)
   among-right [] b h = h
   among-right (f ∷ a) b h = inr (among-right a b h)
 
+  -- one of two lists is of the first or of the second
   pub among-cases : (a b : List Event) → Among e (a ++ b) → Among e a ⊎ Among e b
   among-cases [] b h = inr h
   among-cases (f ∷ a) b (inl s) = inl (inl s)
@@ -24,11 +26,13 @@ module _ (e : Event) where
       go (inl h) = inl (inr h)
       go (inr h) = inr h
 
+  -- one of the first
   pub among-left : (a b : List Event) → Among e a → Among e (a ++ b)
   among-left [] b h = absurd h
   among-left (f ∷ a) b (inl s) = inl s
   among-left (f ∷ a) b (inr h) = inr (among-left a b h)
 
+  -- one of a list is among those about its label
   pub among-about : (h : List Event) → Among e h → Among e (about (subject e) h)
   unfolding about
   among-about [] i = absurd i
@@ -39,6 +43,7 @@ module _ (e : Event) where
       go true t later = rw (t, about) (inr later)
       go false t later = rw (t, about) later
 
+  -- and one about a label is one of the list
   pub about-among : (l : ℕ) (h : List Event) → Among e (about l h) → Among e h
   unfolding about
   about-among l [] i = i

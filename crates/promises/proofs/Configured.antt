@@ -22,12 +22,13 @@ use Rattle.rules.proofs.Chosen.{up-to-some}
 use Rattle.promises.specs.Lives.{Issued}
 use Rattle.promises.proofs.Acting.{up-to-is}
 
--- a number that is equal, and one between two
+-- a number that is equal
 pub equal-is : (z : ℤ) (n : ℕ) → eqZ z (pos n) ≡ true → z ≡ pos n
 unfolding eqZ
 equal-is (pos a) n e = ap pos (eqb-true a n e)
 equal-is (negsuc a) n e = absurd (false≢true e)
 
+-- a number between two is a natural one between them
 between-is : (low high : ℕ) (z : ℤ) → between (pos low) (pos high) z ≡ true → (z ≡ pos (nat z)) × (low ≤ nat z) × (nat z ≤ high)
 unfolding between nat
 between-is low high (pos n) e = (refl, leb-true low n (both-left (leb low n) (leb n high) e), leb-true n high (both-right (leb low n) (leb n high) e))
@@ -61,6 +62,7 @@ module _ (m : Model) (c : Cells) (is : isConfiguration m c ≡ true) where
   unfolding objectsInUse
   objects-counted = between-is 1 objectRows (read c objects) (both-left _ (between (pos 1) (pos callRows) (read c calls)) (configured .0))
 
+  -- the same of calls
   pub calls-counted : (read c calls ≡ pos (rowsInUse c)) × (1 ≤ rowsInUse c) × (rowsInUse c ≤ callRows)
   unfolding rowsInUse
   calls-counted = between-is 1 callRows (read c calls) (both-right (between (pos 1) (pos objectRows) (read c objects)) _ (configured .0))
@@ -74,9 +76,11 @@ module _ (m : Model) (c : Cells) (is : isConfiguration m c ≡ true) where
   object-holds : (o : ℕ) → 1 ≤ o → o ≤ objectsInUse c → objectHolds m c o ≡ true
   object-holds o l h = each-to (objectHolds m c) (objectsInUse c) (both-right (unusedHold m c) _ (both-left (unusedHold m c && allTo (objectsInUse c) (objectHolds m c)) (allTo (rowsInUse c) (callHolds m c)) (configured .1))) o l h
 
+  -- the same of a call
   call-holds : (l : ℕ) → 1 ≤ l → l ≤ rowsInUse c → callHolds m c l ≡ true
   call-holds l low h = each-to (callHolds m c) (rowsInUse c) (both-right (unusedHold m c && allTo (objectsInUse c) (objectHolds m c)) (allTo (rowsInUse c) (callHolds m c)) (configured .1)) l low h
 
+  -- what an object runs is named
   running-named : (o : ℕ) → 1 ≤ o → o ≤ objectsInUse c → runningNamed m c o ≡ true
   unfolding objectHolds
   running-named o l h = go (classOf m c o) refl
@@ -90,6 +94,7 @@ module _ (m : Model) (c : Cells) (is : isConfiguration m c ≡ true) where
   Runs o = (ofObject c o runningLabel ≡ pos 0)
       ⊎ ((l : ℕ) × (ofObject c o runningLabel ≡ pos l) × Issued c l × (stageOf c l ≡ pos running) × (ofCall c l callee ≡ pos o))
 
+  -- each object in use runs nothing, or such a call
   pub runs-what : (o : ℕ) → 1 ≤ o → o ≤ objectsInUse c → Runs o
   unfolding runningNamed inStage labelOf
   runs-what o low h = by (or-cases _ _ (running-named o low h))

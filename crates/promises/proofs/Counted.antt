@@ -149,10 +149,12 @@ fresh-long : length fresh ≡ allCells
 unfolding fresh
 fresh-long = length-written (replicate allCells (pos 0)) _
 
+-- and one call
 fresh-calls : read fresh calls ≡ pos 1
 unfolding layout-open fresh
 fresh-calls = refl
 
+-- from a start
 pub calls-issued : (m : Model) (choices : List Choice) → CallsIssued m choices
 unfolding history totalOf issuedBy
 calls-issued m choices =

@@ -67,6 +67,7 @@ module _ (m : Model) (accepted : AcceptedModel m) (fresh-is : isConfiguration m 
   pub configured-at : (choices : List Choice) → isConfiguration m (cellsAt m choices) ≡ true
   configured-at choices = run-configured m accepted keeps fresh fresh-is choices
 
+  -- and every label has lived as its stage says
   pub alive-at : (choices : List Choice) → Alive (cellsAt m choices) (history m choices)
   unfolding history
   alive-at choices = run-alive m accepted keeps fresh fresh-is firstEvents fresh-alive choices

@@ -75,6 +75,7 @@ module _ (m : Model) (c : Cells) (choice : Choice) (d : Cells) where
     pub reply : Replied c o (held (here c o k) x) l
     pub same : held (here d o k) y ≡ ofCall c l value
 
+  -- what each event says; those of transport and binding say nothing more
   unfoldable pub Happened : Event → Type 0
   Happened (issuing l) = IssuedNow l
   Happened (spawning l) = SpawnedNow l

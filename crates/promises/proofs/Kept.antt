@@ -34,28 +34,32 @@ module _ {m : Model} {c : Cells} {choice : Choice} {ws : List Write} {es : List 
       ∙ untouched (sparing (rowsInUse c) (movedBy a) (answeredBy a)) c ws (call l f) (act-spares a) e
       ∙ sym (of-call-is c l low (omega arith) f)
 
-  -- who called whom, for what, and with how many arguments
+  -- who called
   pub kept-caller : ofCall (written c ws) l caller ≡ ofCall c l caller
   unfolding ownField
   kept-caller = kept caller (spared (rowsInUse c) (movedBy a) (answeredBy a) l caller high refl refl refl)
 
+  -- whom it called
   pub kept-callee : ofCall (written c ws) l callee ≡ ofCall c l callee
   unfolding ownField
   kept-callee = kept callee (spared (rowsInUse c) (movedBy a) (answeredBy a) l callee high refl refl refl)
 
+  -- for which method
   pub kept-method : ofCall (written c ws) l method ≡ ofCall c l method
   unfolding ownField
   kept-method = kept method (spared (rowsInUse c) (movedBy a) (answeredBy a) l method high refl refl refl)
 
+  -- and with how many arguments
   pub kept-args : ofCall (written c ws) l args ≡ ofCall c l args
   unfolding ownField
   kept-args = kept args (spared (rowsInUse c) (movedBy a) (answeredBy a) l args high refl refl refl)
 
-  -- the stage of a call that is not moved, and the value of one that is not answered
+  -- the stage of a call that is not moved
   pub kept-stage : (l ≡ movedBy a → ⊥) → stageOf (written c ws) l ≡ stageOf c l
   unfolding stageOf ownField
   kept-stage ne = kept stage (spared (rowsInUse c) (movedBy a) (answeredBy a) l stage high refl (ne-eqb l (movedBy a) ne) refl)
 
+  -- the value of a call that is not answered
   pub kept-value : (l ≡ answeredBy a → ⊥) → ofCall (written c ws) l value ≡ ofCall c l value
   unfolding ownField
   kept-value ne = kept value (spared (rowsInUse c) (movedBy a) (answeredBy a) l value high refl refl (ne-eqb l (answeredBy a) ne))

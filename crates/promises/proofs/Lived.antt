@@ -29,6 +29,7 @@ IssuedTo l (suc (suc (suc (suc (suc (suc zero)))))) es = es ≡ take 5 (issuedLi
 IssuedTo l (suc (suc (suc (suc (suc (suc (suc zero))))))) es = es ≡ take 6 (issuedLife l)
 IssuedTo l (suc (suc (suc (suc (suc (suc (suc (suc n)))))))) es = ⊥
 
+-- the same of a call that was spawned
 abbrev pub SpawnedTo : ℕ → ℕ → List Event → Type 0
 SpawnedTo l zero es = ⊥
 SpawnedTo l (suc zero) es = ⊥
@@ -54,10 +55,12 @@ pub about-own : (e : Event) (l : ℕ) → subject e ≡ l → about l (e ∷ [])
 unfolding about
 about-own e l h = rw (eq-eqb (subject e) l h, about)
 
+-- an event is about no other label
 pub about-other : (e : Event) (l : ℕ) → (subject e ≡ l → ⊥) → about l (e ∷ []) ≡ []
 unfolding about
 about-other e l h = rw (ne-eqb (subject e) l h, about)
 
+-- two lists, one behind the other
 pub about-append : (l : ℕ) (a b : List Event) → about l (a ++ b) ≡ about l a ++ about l b
 unfolding about
 about-append l [] b = refl
@@ -73,21 +76,26 @@ module _ (l : ℕ) (es : List Event) where
   on-arriving true h = h
   on-arriving false h = ap (λ a. a ++ (arriving l ∷ [])) h
 
+  -- 2 to 3
   pub on-binding : (b : Bool) → LivedTo l b queued es → LivedTo l b bound (es ++ (binding l ∷ []))
   on-binding true h = absurd h
   on-binding false h = ap (λ a. a ++ (binding l ∷ [])) h
 
+  -- 5 to 6
   pub on-delivering : (b : Bool) → LivedTo l b answered es → LivedTo l b replied (es ++ (delivering l ∷ []))
   on-delivering true h = h
   on-delivering false h = ap (λ a. a ++ (delivering l ∷ [])) h
 
+  -- 6 to 7
   pub on-taking : (b : Bool) → LivedTo l b replied es → LivedTo l b taken (es ++ (taking l ∷ []))
   on-taking true h = absurd h
   on-taking false h = ap (λ a. a ++ (taking l ∷ [])) h
 
+  -- 4 to 5, of a call with a caller
   pub on-returning : LivedTo l false running es → LivedTo l false answered (es ++ (returning l ∷ []))
   on-returning h = ap (λ a. a ++ (returning l ∷ [])) h
 
+  -- 4 to 7, of one without
   pub on-ending : LivedTo l true running es → LivedTo l true taken (es ++ (returning l ∷ []))
   on-ending h = ap (λ a. a ++ (returning l ∷ [])) h
 
@@ -96,6 +104,7 @@ module _ (l : ℕ) (es : List Event) where
   on-suspending true h = append-nil es ∙ h
   on-suspending false h = append-nil es ∙ h
 
+  -- 3 to 4
   pub on-starting : (b : Bool) → LivedTo l b bound es → LivedTo l b running (es ++ [])
   on-starting true h = append-nil es ∙ h
   on-starting false h = append-nil es ∙ h
@@ -105,6 +114,7 @@ module _ (l : ℕ) (es : List Event) where
   abbrev Begun : Type 0
   Begun = BeginningOf (issuedLife l) es ⊎ BeginningOf (spawnedLife l) es
 
+  -- of a call that was issued
   issued-begun : (s : ℕ) → IssuedTo l s es → Begun
   issued-begun zero h = absurd h
   issued-begun (suc zero) h = inl (1, omega arith, omega arith, h)
@@ -116,6 +126,7 @@ module _ (l : ℕ) (es : List Event) where
   issued-begun (suc (suc (suc (suc (suc (suc (suc zero))))))) h = inl (6, omega arith, omega arith, h)
   issued-begun (suc (suc (suc (suc (suc (suc (suc (suc n)))))))) h = absurd h
 
+  -- of one that was spawned
   spawned-begun : (s : ℕ) → SpawnedTo l s es → Begun
   spawned-begun zero h = absurd h
   spawned-begun (suc zero) h = absurd h
@@ -127,6 +138,7 @@ module _ (l : ℕ) (es : List Event) where
   spawned-begun (suc (suc (suc (suc (suc (suc (suc zero))))))) h = inr (2, omega arith, omega arith, h)
   spawned-begun (suc (suc (suc (suc (suc (suc (suc (suc n)))))))) h = absurd h
 
+  -- of either
   pub lived-begun : (b : Bool) (s : ℕ) → LivedTo l b s es → Begun
   lived-begun true s h = spawned-begun s h
   lived-begun false s h = issued-begun s h
@@ -136,6 +148,7 @@ abbrev Staged : ℕ → List Event → Type 0
 Staged s es = Among (pos s) (map pos (stagesAfter es))
 
 module _ (l : ℕ) (es : List Event) where
+  -- of a call that was issued
   issued-staged : (s : ℕ) → IssuedTo l s es → Staged s es
   unfolding stagesAfter stagesFrom lastFrom issuedStages
   issued-staged zero h = absurd h
@@ -148,6 +161,7 @@ module _ (l : ℕ) (es : List Event) where
   issued-staged (suc (suc (suc (suc (suc (suc (suc zero))))))) h = rw h (inl refl)
   issued-staged (suc (suc (suc (suc (suc (suc (suc (suc n)))))))) h = absurd h
 
+  -- of one that was spawned
   spawned-staged : (s : ℕ) → SpawnedTo l s es → Staged s es
   unfolding stagesAfter stagesFrom lastFrom spawnedStages
   spawned-staged zero h = absurd h
@@ -160,6 +174,7 @@ module _ (l : ℕ) (es : List Event) where
   spawned-staged (suc (suc (suc (suc (suc (suc (suc zero))))))) h = rw h (inl refl)
   spawned-staged (suc (suc (suc (suc (suc (suc (suc (suc n)))))))) h = absurd h
 
+  -- of either
   pub lived-staged : (b : Bool) (s : ℕ) → LivedTo l b s es → Staged s es
   lived-staged true s h = spawned-staged s h
   lived-staged false s h = issued-staged s h

@@ -23,23 +23,25 @@ use Rattle.promises.proofs.Spared.{scratch, ownField}
 use Rattle.promises.proofs.Standings.{Fits}
 use Rattle.promises.proofs.Untouched.{AtOnly, written-append, only-call, only-row, untouched, reads-back, of-call-is, to-call-is, fieldIn, row-reads}
 
--- places of calls, and places of objects
+-- places of calls, and their count
 unfoldable pub inCalls : Place → Bool
 inCalls (header i) = eqb i 1
 inCalls (object o f) = false
 inCalls (call r f) = true
 
+-- places of objects
 unfoldable pub inObjects : Place → Bool
 inObjects (header i) = false
 inObjects (object o f) = true
 inObjects (call r f) = false
 
--- places other than stages, and places other than values
+-- places other than stages
 unfoldable pub unstaged : Place → Bool
 unstaged (header i) = true
 unstaged (object o f) = true
 unstaged (call r f) = leb 1 f
 
+-- places other than values
 unfoldable pub valueless : Place → Bool
 valueless (header i) = true
 valueless (object o f) = true
@@ -73,6 +75,7 @@ module _ (c d : Cells) (long : length d ≡ allCells) (few : nextRow c ≤ callR
       ∙ ap (λ g. read e (call r g)) (sym same)
       ∙ row-reads (call r) (λ g. refl) (write d calls (pos r)) 0 _ f (length-write d calls (pos r) ∙ long) (omega arith) (omega arith)
 
+  -- so the whole of what is asked of it
   pub new-call : NewCall (written (written d (withCall c st by to j zs)) tail) (nextRow c) st by to j (length zs)
   unfolding stageOf ownField
   new-call = record {
@@ -90,12 +93,14 @@ module _ (c : Cells) (long : length c ≡ allCells) (few : nextObject c ≤ obje
   unfolding withCall newCall inCalls
   call-in = (refl, only-row inCalls (call (nextRow c)) 0 _ (λ g h. refl))
 
+  -- what the new call and the storing leave
   behind : (p : Place) → scratch p ≡ false → inCalls p ≡ false
       → read (written (written (written c (withObject c k l zs)) (withCall c st by to j [])) tail) p ≡ read (written c (withObject c k l zs)) p
   behind p e f =
       untouched scratch (written (written c (withObject c k l zs)) (withCall c st by to j [])) tail p only e
       ∙ untouched inCalls (written c (withObject c k l zs)) (withCall c st by to j []) p call-in f
 
+  -- the count is the new object
   pub new-count : objectsInUse (written (written (written c (withObject c k l zs)) (withCall c st by to j [])) tail) ≡ nextObject c
   unfolding objectsInUse withObject newObject scratch inCalls inObjects nat
   new-count =
@@ -103,6 +108,7 @@ module _ (c : Cells) (long : length c ≡ allCells) (few : nextObject c ≤ obje
       ∙ reads-back inObjects c objects (pos (nextObject c)) (newObject (nextObject c) k l zs) long (omega arith)
       (only-row inObjects (object (nextObject c)) 0 _ (λ g h. refl)) refl)
 
+  -- and the new object runs its call
   pub new-running : ofObject (written (written (written c (withObject c k l zs)) (withCall c st by to j [])) tail) (nextObject c) runningLabel ≡ pos l
   unfolding ofObject withObject newObject written scratch inCalls fieldIn nextObject
   new-running =
@@ -116,6 +122,7 @@ module _ (m : Model) (c : Cells) (o l : ℕ) (at : Standing) (e : Cells) (long :
   unfolding onward
   onward-is = to-call-is c l low high line (pos (at .at + 1))
 
+  -- the line after
   pub line-reads : (ws : List Write) → ofCall (written e (ws ++ onward m c o l at)) l line ≡ pos (at .at + 1)
   unfolding inObjects
   line-reads ws =
@@ -123,6 +130,7 @@ module _ (m : Model) (c : Cells) (o l : ℕ) (at : Standing) (e : Cells) (long :
       ∙ of-call-is (written (written e ws) ((call l line, pos (at .at + 1)) ∷ [])) l low high line
       ∙ reads-back inObjects (written e ws) (call l line) (pos (at .at + 1)) [] (length-written e ws ∙ long) (low, high, omega arith) tt refl
 
+  -- the variable
   pub stored-reads : 1 ≤ o → o ≤ objectRows → (x : Variable) → Fits x → (z : ℤ) → held (here (written e (stored c o l x z ++ onward m c o l at)) o l) x ≡ z
   unfolding held here stored ofObject toObject inCalls onward inObjects atField fieldIn
   stored-reads first last (Attribute i) h z =
@@ -145,6 +153,7 @@ module _ (c e : Cells) (long : length e ≡ allCells) (l : ℕ) (low : 1 ≤ l) 
       ∙ ap (λ w. read (written e w) (call l stage)) (to-call-is c l low high stage (pos s))
       ∙ reads-back inObjects e (call l stage) (pos s) [] long (low, high, omega arith) tt refl
 
+  -- the value
   pub value-reads : (sort : Place → Bool) (z : ℤ) → AtOnly sort tail → sort (call l value) ≡ false → ofCall (written (written e (toCall c l value z)) tail) l value ≡ z
   unfolding inObjects
   value-reads sort z only h =

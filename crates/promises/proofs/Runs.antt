@@ -160,6 +160,7 @@ module _ (m : Model) (accepted : AcceptedModel m)
       rw (← append-assoc h (eventsOf m c choice) (happenings m (cellsAfter c (next m c choice)) choices))
       (run-alive (cellsAfter c (next m c choice)) (keeps c choice is) (h ++ eventsOf m c choice) (step-alive c is choice h alive) choices)
 
+  -- a label stays one call
   pub run-same : (c : Cells) → isConfiguration m c ≡ true → (l : ℕ) → Issued c l → (choices : List Choice) → SameCall c (runCells m c choices) l
   unfolding runCells
   run-same c is l i [] = record { issued = i; caller-same = refl; callee-same = refl; method-same = refl; args-same = refl }
@@ -174,6 +175,7 @@ module _ (m : Model) (accepted : AcceptedModel m)
         args-same = rest .args-same ∙ first .args-same;
       }
 
+  -- and what returned keeps its value
   pub run-value : (c : Cells) → isConfiguration m c ≡ true → (h : List Event) → Alive c h → (l : ℕ) → Among (returning l) h → (choices : List Choice)
       → ofCall (runCells m c choices) l value ≡ ofCall c l value
   unfolding runCells

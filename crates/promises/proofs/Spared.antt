@@ -54,6 +54,7 @@ or-left : (a b : Bool) → a ≡ true → a || b ≡ true
 or-left true b e = refl
 or-left false b e = cc
 
+-- and so is the other
 or-right : (a b : Bool) → b ≡ true → a || b ≡ true
 or-right true b e = refl
 or-right false b e = e
@@ -63,6 +64,7 @@ local-own : (i : ℕ) → ownField (local i) ≡ true
 unfolding ownField
 local-own i = or-right (eqb (8 + i) line || eqb (8 + i) cleared) (leb 8 (8 + i)) (le-leb 8 (8 + i) (omega arith))
 
+-- cleared is a field of its own call
 pub cleared-own : (l : ℕ) → scratch (call l cleared) ≡ true
 unfolding scratch ownField
 cleared-own l = refl
@@ -74,14 +76,17 @@ module _ (m : Model) (c : Cells) (o l : ℕ) (at : Standing) where
   stored-scratch (Attribute i) z = only-object scratch o (attribute i) z (le-leb 2 (2 + i) (omega arith))
   stored-scratch (Local i) z = only-call scratch c l (local i) z (local-own i)
 
+  -- the next line
   pub onward-scratch : AtOnly scratch (onward m c o l at)
   unfolding onward scratch ownField
   onward-scratch = only-call scratch c l line _ refl
 
+  -- another line
   pub jumped-scratch : AtOnly scratch (jumped m c o l at)
   unfolding jumped scratch ownField
   jumped-scratch = only-call scratch c l line _ refl
 
+  -- an `await` that is crossed
   pub crossed-scratch : AtOnly scratch (crossed m c o l at)
   unfolding crossed scratch ownField
   crossed-scratch = only-append scratch (toCall c l cleared (pos 0)) (onward m c o l at) (only-call scratch c l cleared _ refl) onward-scratch
@@ -98,22 +103,27 @@ module _ (n s v : ℕ) where
   scratch-spares (object o f) e = refl
   scratch-spares (call r f) e = or-left (ltb n r || ownField f) _ (or-right (ltb n r) (ownField f) e)
 
+  -- and so do writes there alone
   spares : (ws : List Write) → AtOnly scratch ws → AtOnly (sparing n s v) ws
   spares ws h = only-wider scratch (sparing n s v) scratch-spares ws h
 
+-- none of them is the count
 scratch-uncounted : (p : Place) → scratch p ≡ true → uncounted p ≡ true
 unfolding scratch uncounted
 scratch-uncounted (header i) e = cc
 scratch-uncounted (object o f) e = refl
 scratch-uncounted (call r f) e = refl
 
+-- so writes there alone leave it
 pub uncounts : (ws : List Write) → AtOnly scratch ws → AtOnly uncounted ws
 uncounts ws h = only-wider scratch uncounted scratch-uncounted ws h
 
 module _ (m : Model) (c : Cells) (o l : ℕ) (at : Standing) where
+  -- what a line stores, and its next line, spare every call
   tail-spares : (n s v : ℕ) (x : Variable) (z : ℤ) → AtOnly (sparing n s v) (stored c o l x z ++ onward m c o l at)
   tail-spares n s v x z = spares n s v (stored c o l x z ++ onward m c o l at) (tail-scratch m c o l at x z)
 
+  -- and leave the count
   pub tail-uncounted : (x : Variable) (z : ℤ) → AtOnly uncounted (stored c o l x z ++ onward m c o l at)
   tail-uncounted x z = uncounts (stored c o l x z ++ onward m c o l at) (tail-scratch m c o l at x z)
 
@@ -125,6 +135,7 @@ module _ (n s v : ℕ) (c : Cells) where
       only-call (sparing n s v) c s stage (pos i)
       (or-right (ltb n s || ownField stage) _ (or-left (eqb s s) _ (eq-eqb s s refl)))
 
+  -- its value
   value-spares : (z : ℤ) → AtOnly (sparing n s v) (toCall c v value z)
   unfolding sparing
   value-spares z =
@@ -141,14 +152,17 @@ module _ (s v : ℕ) (c : Cells) where
         (λ g h. or-left (ltb (rowsInUse c) (rowsInUse c + 1) || ownField g) _ (or-left _ (ownField g) (lt-ltb (rowsInUse c) (rowsInUse c + 1) (omega arith)))),
   )
 
+  -- a new object's row
   new-object-spares : (k r : ℕ) (zs : List ℤ) → AtOnly (sparing (rowsInUse c) s v) (withObject c k r zs)
   unfolding withObject newObject sparing
   new-object-spares k r zs = (refl, only-row (sparing (rowsInUse c) s v) (object (nextObject c)) 0 _ (λ g h. refl))
 
+-- which leaves the count of calls
 pub new-object-uncounted : (c : Cells) (k r : ℕ) (zs : List ℤ) → AtOnly uncounted (withObject c k r zs)
 unfolding withObject newObject uncounted
 new-object-uncounted c k r zs = (refl, only-row uncounted (object (nextObject c)) 0 _ (λ g h. refl))
 
+-- as a stage does
 pub staged-uncounted : (c : Cells) (l i : ℕ) → AtOnly uncounted (staged c l i)
 unfolding staged uncounted
 staged-uncounted c l i = only-call uncounted c l stage (pos i) refl
@@ -171,6 +185,7 @@ module _ {m : Model} {c : Cells} {choice : Choice} where
   movedBy (starts l h s) = l
   movedBy (delivers l h s) = l
 
+  -- the call that it answers
   unfoldable pub answeredBy : {ws : List Write} {es : List Event} → Act m c choice ws es → ℕ
   answeredBy (goes o l at r) = 0
   answeredBy (jumps o l at r) = 0

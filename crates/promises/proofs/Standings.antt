@@ -26,6 +26,7 @@ found : {A B : Type 0} (o : Option A) (k : A → Option B) (b : B) → o >>= k �
 found none k b e = absurd (let z : _≡_ {A = ℕ} 0 1 = cc in omega arith)
 found (some a) k b e = (a, refl, e)
 
+-- a cell that is a natural number
 natural-pos : (z : ℤ) (n : ℕ) → natural z ≡ some n → z ≡ pos n
 unfolding natural
 natural-pos (pos k) n e = cc
@@ -37,6 +38,7 @@ pub record Stood (m : Model) (c : Cells) (l : ℕ) (at : Standing) : Type 0 wher
   pub line-is : ofCall c l line ≡ pos (at .at)
   pub statement : getElem? (at .body .code) (at .at) ≡ some (at .statement)
 
+-- what a standing that was found says
 pub stood-at : (m : Model) (c : Cells) (l : ℕ) (at : Standing) → standingOf m c l ≡ some at → Stood m c l at
 unfolding standingOf
 stood-at m c l at e =

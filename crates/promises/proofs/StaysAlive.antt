@@ -52,6 +52,7 @@ module _ {m : Model} {c : Cells} {choice : Choice} {ws : List Write} {es : List 
       subst (λ u. Living (written c ws) (movedBy a) (life ++ u)) (sym (ap (about (movedBy a)) one ∙ about-own e (movedBy a) sub))
       (turned c (written c ws) (movedBy a) s t life (e ∷ []) before after (kept-caller a (calls-counted m c is .2) (movedBy a) (i .0) (i .1)) (on life) live))
 
+  -- by none
   by-none : es ≡ []
       → ((life : List Event) → LivedTo (movedBy a) (eqZ (ofCall c (movedBy a) caller) (pos 0)) s life
       → LivedTo (movedBy a) (eqZ (ofCall c (movedBy a) caller) (pos 0)) t (life ++ []))
@@ -68,14 +69,17 @@ module _ (m : Model) (c : Cells) (is : isConfiguration m c ≡ true) (l : ℕ) (
   few : l ≤ callRows
   few = let w = calls-counted m c is in let j = i .1 in omega arith
 
+  -- where the stage is all that is written
   stage-now : (s : ℕ) → stageOf (written c (staged c l s)) l ≡ pos s
   unfolding written unstaged
   stage-now s = stage-reads c c (all-cells m c is) l (i .0) few [] unstaged s tt refl
 
+  -- where other places are written behind it
   stage-then : (s : ℕ) (sort : Place → Bool) (tail : List Write) → AtOnly sort tail → sort (call l 0) ≡ false → stageOf (written c (staged c l s ++ tail)) l ≡ pos s
   stage-then s sort tail only e =
       ap (λ d. stageOf d l) (written-append c (staged c l s) tail) ∙ stage-reads c c (all-cells m c is) l (i .0) few tail sort s only e
 
+  -- of an `await` that is not enabled
   stage-suspended : (o : ℕ) (at : Standing) → stageOf (written c (suspended m c o l at)) l ≡ pos bound
   unfolding suspended freed unstaged
   stage-suspended o at =
@@ -84,10 +88,12 @@ module _ (m : Model) (c : Cells) (is : isConfiguration m c ≡ true) (l : ℕ) (
       ap (λ w. stageOf (written c w) l) (append-assoc (staged c l bound) p q)
       ∙ stage-then bound unstaged (p ++ q) (only-append unstaged p q (only-call unstaged c l cleared (pos 1) refl) (only-object unstaged o runningLabel (pos 0) refl)) refl
 
+  -- of a start
   stage-started : (o : ℕ) → stageOf (written c (started c o l)) l ≡ pos running
   unfolding started unstaged
   stage-started o = stage-then running unstaged (toObject o runningLabel (pos l)) (only-object unstaged o runningLabel (pos l) refl) refl
 
+  -- of a `return`
   stage-returned : (o : ℕ) (at : Standing) (z : ℤ) (s : ℕ) → stageOf (written c (toCall c l value z ++ staged c l s ++ freed m c o l at)) l ≡ pos s
   unfolding freed unstaged
   stage-returned o at z s =
@@ -108,6 +114,7 @@ returned-lived m c o l at life = go (eqZ (ofCall c l caller) (pos 0)) refl
     go false e k = rw (e, stageReturned) (on-returning l life (rw e at k))
 
 module _ (m : Model) (accepted : AcceptedModel m) (c : Cells) (is : isConfiguration m c ≡ true) (choice : Choice) (h : List Event) (alive : Alive c h) where
+  -- a label that is chosen is issued
   chosen-issued : {k : Kind} {l : ℕ} → Chosen c choice k l → Issued c l
   chosen-issued w = (w .low, w .high)
 
@@ -119,10 +126,12 @@ module _ (m : Model) (accepted : AcceptedModel m) (c : Cells) (is : isConfigurat
       go : (o : ℕ) → ofCall d r caller ≡ pos o → 1 ≤ o → LivedTo r (eqZ (ofCall d r caller) (pos 0)) invoked (issuing r ∷ [])
       go o e low = subst (λ b. LivedTo r b invoked (issuing r ∷ [])) (sym (ap (λ z. eqZ z (pos 0)) e ∙ ne-eqb o 0 (λ s. omega arith))) refl
 
+  -- a label that is spawned: its caller is nobody
   spawned-living : (d : Cells) (r : ℕ) → stageOf d r ≡ pos running → ofCall d r caller ≡ pos 0 → Living d r (spawning r ∷ [])
   unfolding eqZ
   spawned-living d r s e = (running, s, subst (λ b. LivedTo r b running (spawning r ∷ [])) (sym (ap (λ z. eqZ z (pos 0)) e)) refl)
 
+  -- every case
   pub act-alive : {ws : List Write} {es : List Event} → Act m c choice ws es → Alive (written c ws) (h ++ es)
   unfolding movedBy subject issuedBy scratch ownField
   act-alive (goes o l at r) = still-alive (goes o l at r) is h alive refl refl

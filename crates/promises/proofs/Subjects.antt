@@ -37,11 +37,12 @@ use Rattle.promises.proofs.Spared.{tail-scratch}
 use Rattle.promises.proofs.Standings.{Fits, stood-at, stands-within}
 use Rattle.promises.proofs.Untouched.{written-append}
 
--- rows that are left
+-- a row of objects that is left
 pub object-left : (c : Cells) → objectLeft c ≡ true → nextObject c ≤ objectRows
 unfolding objectLeft nextObject
 object-left c e = omega (arith, ltb-true (objectsInUse c) objectRows e)
 
+-- of calls
 pub row-left : (c : Cells) → rowLeft c ≡ true → nextRow c ≤ callRows
 unfolding rowLeft nextRow
 row-left c e = omega (arith, ltb-true (rowsInUse c) callRows e)
@@ -54,6 +55,7 @@ pub record Replied (c : Cells) (o : ℕ) (z : ℤ) (from : ℕ) : Type 0 where
   pub stage-is : stageOf c from ≡ pos replied
   pub caller-is : ofCall c from caller ≡ pos o
 
+-- what a reply that was found says
 pub replied-for : (c : Cells) (o : ℕ) (z : ℤ) (from : ℕ) → replyFor c o z ≡ some from → Replied c o z from
 unfolding replyFor labelOf isReply inStage onlyIf
 replied-for c o z from e = by-label (labelOf c z) refl
@@ -82,6 +84,7 @@ module _ (m : Model) (accepted : AcceptedModel m) (c : Cells) (is : isConfigurat
   unfolding labelOf
   running-issued = let w = up-to-some (rowsInUse c) (ofObject c o runningLabel) l (r .runs) in (w .0, w .1)
 
+  -- and runs
   pub running-stage : stageOf c l ≡ pos running
   running-stage = runs-stage m c is o l (r .low) (r .high) (r .runs)
 
@@ -89,6 +92,7 @@ module _ (m : Model) (accepted : AcceptedModel m) (c : Cells) (is : isConfigurat
   label-few : l ≤ callRows
   label-few = let i = running-issued in let w = calls-counted m c is in omega arith
 
+  -- its object has a row
   object-few : o ≤ objectRows
   object-few = let w = objects-counted m c is in let h = r .high in omega arith
 
@@ -142,6 +146,7 @@ module _ (m : Model) (accepted : AcceptedModel m) (c : Cells) (is : isConfigurat
       ap (λ z. eqZ z (ofCall d l line)) before ∙ ap (eqZ (pos (at .at))) after ∙ ne-eqb (at .at) (at .at + 1) (λ s. omega arith) in
       rw (differ, performing) (ap (λ z. taking (nat z) ∷ []) (u .label))
 
+  -- and Y gets the value of its row
   pub take-value : (x y : Variable) (from : ℕ) → at .statement ≡ get x y → (d : Cells)
       → d ≡ written c (staged c from taken ++ (stored c o l y (ofCall c from value) ++ onward m c o l at)) → held (here d o l) y ≡ ofCall c from value
   unfolding CodeWithin

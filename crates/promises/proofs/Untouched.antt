@@ -26,6 +26,7 @@ AtOnly sort [] = Unit {0}
 AtOnly sort (w ∷ ws) = (sort (w .0) ≡ true) × AtOnly sort ws
 
 module _ (sort : Place → Bool) where
+  -- two lists of such writes
   pub only-append : (a b : List Write) → AtOnly sort a → AtOnly sort b → AtOnly sort (a ++ b)
   only-append [] b h k = k
   only-append (w ∷ a) b h k = (h .0, only-append a b (h .1) k)
@@ -47,10 +48,12 @@ module _ (sort : Place → Bool) where
       go true r = rw (r, toCall, rowOf, onlyIf) (e, tt)
       go false r = rw (r, toCall, rowOf, onlyIf) tt
 
+  -- of an object
   pub only-object : (o f : ℕ) (z : ℤ) → sort (object o f) ≡ true → AtOnly sort (toObject o f z)
   unfolding toObject
   only-object o f z e = (e, tt)
 
+  -- of a row from a field on
   pub only-row : (row : ℕ → Place) (f : ℕ) (zs : List ℤ) → ((g : ℕ) → f ≤ g → sort (row g) ≡ true) → AtOnly sort (rowFrom row f zs)
   unfolding rowFrom
   only-row row f [] e = tt
@@ -68,10 +71,12 @@ module _ (c : Cells) (l : ℕ) (low : 1 ≤ l) (high : l ≤ callRows) where
   unfolding rowOf onlyIf
   row-is = rw (within-row callRows l low high, onlyIf)
 
+  -- a field of it
   pub of-call-is : (f : ℕ) → ofCall c l f ≡ read c (call l f)
   unfolding ofCall
   of-call-is f = rw (row-is, ofCall)
 
+  -- a write of one
   pub to-call-is : (f : ℕ) (z : ℤ) → toCall c l f z ≡ (call l f, z) ∷ []
   unfolding toCall
   to-call-is f z = rw (row-is, toCall)

@@ -16,11 +16,12 @@ use Rattle.promises.specs.Histories.{cellsAt, history, about}
 use Rattle.promises.specs.Lives.{issuedLife, spawnedLife}
 use Rattle.promises.proofs.Open.{promises-open}
 
--- the session's model and choices
+-- the session's model
 unfoldable pub session-model : Model
 unfolding scenes session-texts
 session-model = modelOf session
 
+-- and its choices, of which three are refused
 unfoldable pub session-steps : List Choice
 session-steps =
     choose exec 1 ∷ choose exec 1 ∷ choose exec 1 ∷ choose exec 1 ∷ choose start 1 ∷ choose arrive 2 ∷ choose bind 2 ∷ choose start 2
@@ -30,20 +31,22 @@ session-steps =
 abbrev pub call-1 : ℕ → ℤ
 call-1 n = stageOf (cellsAt session-model (take n session-steps)) 1
 
--- call 2 is issued, arrives, is bound, returns, is delivered and taken, and its value 7 is a1 of object 1
+-- call 2 is issued, arrives, is bound, returns, is delivered and taken
 pub whole-life : about 2 (history session-model session-steps) ≡ issuedLife 2
 unfolding promises-open session-model session-steps
 whole-life = refl
 
+-- its value is 7, and so is a1 of object 1
 pub its-value : ofCall (cellsAt session-model session-steps) 2 value ∷ ofObject (cellsAt session-model session-steps) 1 (attribute 1) ∷ [] ≡ pos 7 ∷ pos 7 ∷ []
 unfolding promises-open session-model session-steps
 its-value = refl
 
--- call 1 is spawned and returns; in between it runs, is suspended, and runs again
+-- call 1 is spawned and returns
 pub first-life : about 1 (history session-model session-steps) ≡ spawnedLife 1
 unfolding promises-open session-model session-steps
 first-life = refl
 
+-- the stages of call 1: 4, then 3, then 4, and 7 at the end
 pub suspended-between : map call-1 (2 ∷ 3 ∷ 13 ∷ 16 ∷ []) ≡ pos 4 ∷ pos 3 ∷ pos 4 ∷ pos 7 ∷ []
 unfolding promises-open session-model session-steps
 suspended-between = refl

@@ -61,13 +61,15 @@ pub record StepOf (choices : List Choice) : Type 0 where
   pub whole : choices ≡ before ++ choice ∷ after
 
 module _ (m : Model) {choices : List Choice} (s : StepOf choices) where
-  -- the cells before and after it, and what happens to calls in it
+  -- the cells before it
   abbrev pub cellsBefore : Cells
   cellsBefore = cellsAt m (s .before)
 
+  -- the cells after it
   abbrev pub cellsNext : Cells
   cellsNext = cellsAfter cellsBefore (next m cellsBefore (s .choice))
 
+  -- an event happens in it
   abbrev pub happensIn : Event → Type 0
   happensIn e = Among e (eventsOf m cellsBefore (s .choice))
 

@@ -22,10 +22,11 @@ use Rattle.rules.specs.Events.{Event, issuing, spawning, arriving, binding, ret
 use Rattle.rules.specs.Exec.{here}
 use Rattle.promises.specs.Histories.{cellsAt, history, about, Among, StepOf, cellsBefore, cellsNext, happensIn, Performs}
 
--- the whole life of a call that an object issues, and of one that the start or a creation sets running
+-- the whole life of a call that an object issues
 abbrev pub issuedLife : ℕ → List Event
 issuedLife l = issuing l ∷ arriving l ∷ binding l ∷ returning l ∷ delivering l ∷ taking l ∷ []
 
+-- the whole life of one that the start or a creation sets running
 abbrev pub spawnedLife : ℕ → List Event
 spawnedLife l = spawning l ∷ returning l ∷ []
 
@@ -33,7 +34,7 @@ spawnedLife l = spawning l ∷ returning l ∷ []
 abbrev pub BeginningOf : List Event → List Event → Type 0
 BeginningOf word es = (n : ℕ) × (1 ≤ n) × (n ≤ length word) × (es ≡ take n word)
 
--- the stages after the last event of a life that began with issuing, and of one that began with spawning
+-- the stages after the last event of a life that began with issuing
 unfoldable pub issuedStages : Event → List ℕ
 issuedStages (issuing l) = invoked ∷ []
 issuedStages (spawning l) = []
@@ -43,6 +44,7 @@ issuedStages (returning l) = answered ∷ []
 issuedStages (delivering l) = replied ∷ []
 issuedStages (taking l) = taken ∷ []
 
+-- the same of a life that began with spawning
 unfoldable pub spawnedStages : Event → List ℕ
 spawnedStages (issuing l) = []
 spawnedStages (spawning l) = bound ∷ running ∷ []
@@ -57,6 +59,7 @@ unfoldable pub lastFrom : Event → List Event → Event
 lastFrom e [] = e
 lastFrom e (f ∷ es) = lastFrom f es
 
+-- by the first event and those behind it
 unfoldable pub stagesFrom : Event → List Event → List ℕ
 stagesFrom (issuing l) es = issuedStages (lastFrom (issuing l) es)
 stagesFrom (spawning l) es = spawnedStages (lastFrom (spawning l) es)
@@ -118,7 +121,8 @@ pub record CallerLess (d : Cells) (l o : ℕ) : Type 0 where
   pub callee : ofCall d l Layout.callee ≡ pos o
   pub method : ofCall d l Layout.method ≡ pos 0
 
--- what holds after each list of choices from a start, refused ones among them
+-- what holds after each list of choices from a start, refused ones among them; each beginning of a list is such a list, so that this speaks of every
+-- moment of a run
 pub record Demand3 (m : Model) (choices : List Choice) : Type 0 where
   -- (a) one life: nothing happens to a label that is not issued, and every other has had a beginning of one of the two lives
   pub unissued : (l : ℕ) → (Issued (cellsAt m choices) l → ⊥) → about l (history m choices) ≡ []
