@@ -183,8 +183,8 @@ module _ (m : Model) (accepted : AcceptedModel m) (fresh-is : isConfiguration m 
       record { caller = e .caller-same; callee = e .callee-same; method = e .method-same }
 
   -- the theorem
-  pub demand-3 : (choices : List Choice) → Demand3 m choices
-  demand-3 choices =
+  pub demanded : (choices : List Choice) → Demand3 m choices
+  demanded choices =
       let alive = alive-at choices in
       let is = configured-at choices in
       record {
@@ -203,6 +203,6 @@ module _ (m : Model) (accepted : AcceptedModel m) (fresh-is : isConfiguration m 
       }
 
   -- and so after every mixture of entries behind a start, refused ones among them: the cells are those of some choices, after which it holds
-  pub demand-3-entries : (text : Text) → judged text ≡ model m → (lent : Cells) → length lent ≡ allCells → (es : List Entry)
+  pub demanded-entries : (text : Text) → judged text ≡ model m → (lent : Cells) → length lent ≡ allCells → (es : List Entry)
       → (choices : List Choice) × (leaveAll text (start text lent .cells) es ≡ cellsAt m choices) × Demand3 m choices
-  demand-3-entries text is lent long es = let r = mixture-run text m is lent long es in (r .0, r .1, demand-3 (r .0))
+  demanded-entries text is lent long es = let r = mixture-run text m is lent long es in (r .0, r .1, demanded (r .0))
