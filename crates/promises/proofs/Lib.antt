@@ -5,6 +5,7 @@ pub mod Alive
 pub mod Amongst
 pub mod Configured
 pub mod Counted
+pub mod Demand3
 pub mod Demanded
 pub mod Happened
 pub mod Kept
