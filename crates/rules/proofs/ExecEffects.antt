@@ -144,3 +144,107 @@ module _ (m : Model) (accepted : AcceptedModel m) (c : Cells) (o l : ℕ) (p : P
       moves _ (λ f g. let x = nat-of stage-is in let y = ap nat f in let z = nat-of (p .stage) in omega arith)
       (λ l′ h k w. spares-both (first ++ second) last l′
       (spares-both first second l′ (spares-call l′ c l value z k) (spares-stage l′ c l t k)) (spares-object l′ o runningLabel (pos 0)))
+
+  -- what was moved was written
+  module _ (ws : List Write) where
+    wrote : (vs : List Write) → moved vs ≡ moved ws → Moves c (written c vs) exec o l → Moves c (written c ws) exec o l
+    wrote vs e h = subst (λ ws. Moves c (written c ws) exec o l) (writes-are e) h
+
+    -- a first part that spares the others, a variable, and the next line
+    by-stored : (us : List Write) (x : Variable) (z : ℤ) → moved (us ++ stored c o l x z ++ onward m c o l (standing p)) ≡ moved ws → SparesOthers us
+        → Moves c (written c ws) exec o l
+    by-stored us x z e spare =
+        wrote _ e (by-onward (us ++ stored c o l x z) (λ l′ h n w. spares-both us _ l′ (spare l′ h n w) (spares-stored l′ c o l x z n)))
+
+    new-moves : (x : Variable) (k : ℕ) (zs : List ℤ) → created m c o l (standing p) x k zs ≡ moved ws → Moves c (written c ws) exec o l
+    unfolding created made nextRow
+    new-moves x k zs e =
+        let (left, f) = must-moved (objectLeft c) objectRowsFull _ ws e in
+        let (left-calls, g) = must-moved (whenever (classRuns m k) (rowLeft c)) callRowsFull _ ws f in
+        by-stored (made m c o l (standing p) k zs) x _ g (λ l′ h n w. go l′ h (classRuns m k))
+      where
+        go : (l′ : ℕ) → l′ ≤ rowsInUse c → (b : Bool) → Spares (elim b as (λ _. List Write) [
+          | true ↦ withObject c k (nextRow c) zs ++ withCall c running 0 (nextObject c) 0 []
+          | false ↦ withObject c k 0 zs
+        ]) l′
+        go l′ h true =
+            spares-both (withObject c k (nextRow c) zs) _ l′ (spares-new-object l′ c k (nextRow c) zs)
+            (spares-new-call l′ c running 0 (nextObject c) 0 [] (λ e. omega arith))
+        go l′ h false = spares-new-object l′ c k 0 zs
+
+    call-moves : (x : Variable) (z : ℤ) (j : ℕ) (zs : List ℤ) → issued m c o l (standing p) x z j zs ≡ moved ws → Moves c (written c ws) exec o l
+    unfolding issued nextRow
+    call-moves x z j zs e = go (objectOf c z) e
+      where
+        go : (f : Option ℕ) → (elim f [
+          | none ↦ refused calleeNoObject
+          | some to ↦ must (rowLeft c) callRowsFull (moved (withCall c invoked o to j zs ++ stored c o l x (pos (nextRow c)) ++ onward m c o l (standing p)))
+        ]) ≡ moved ws → Moves c (written c ws) exec o l
+        go none e = absurd (refused-moved e)
+        go (some to) e =
+            let (left, g) = must-moved (rowLeft c) callRowsFull _ ws e in
+            by-stored (withCall c invoked o to j zs) x _ g (λ l′ h n w. spares-new-call l′ c invoked o to j zs (λ e. omega arith))
+
+    get-moves : (x y : Variable) → tookReply m c o l (standing p) x y ≡ moved ws → Moves c (written c ws) exec o l
+    unfolding tookReply
+    get-moves x y e = go (replyFor c o (held (here c o l) x)) refl e
+      where
+        go : (f : Option ℕ) → replyFor c o (held (here c o l) x) ≡ f → (elim f [
+          | none ↦ refused replyNotIn
+          | some from ↦ moved (staged c from taken ++ stored c o l y (ofCall c from value) ++ onward m c o l (standing p))
+        ]) ≡ moved ws → Moves c (written c ws) exec o l
+        go none f e = absurd (refused-moved e)
+        go (some from) f e =
+            let six = nat-of (stage-is m c from replied (reply-is c o _ from f .2)) in
+            by-stored (staged c from taken) y _ e (λ l′ h n w. spares-stage l′ c from taken (λ s. w (ap (λ l. nat (ofCall c l stage)) s ∙ six)))
+
+    branch-moves : (s : Shape) → shapeOf (p .bound .stands .statement) ≡ s → turns s ≡ true → (z : ℤ) → branched m c o l (standing p) z ≡ moved ws
+        → Moves c (written c ws) exec o l
+    unfolding branched
+    branch-moves s e t z f = go (isTrue z) f
+      where
+        go : (b : Bool) → (elim b [ true ↦ moved (onward m c o l (standing p)) | false ↦ moved (jumped m c o l (standing p)) ]) ≡ moved ws
+            → Moves c (written c ws) exec o l
+        go true f = wrote _ f (by-onward [] (λ l′ h n w. tt))
+        go false f = wrote _ f (by-jump s e t)
+
+    await-moves : (z : ℤ) → awaited m c o l (standing p) z ≡ moved ws → Moves c (written c ws) exec o l
+    unfolding awaited crossed
+    await-moves z f = go (isTrue z) f
+      where
+        go : (b : Bool) → (elim b [ true ↦ moved (crossed m c o l (standing p)) | false ↦ moved (suspended m c o l (standing p)) ]) ≡ moved ws
+            → Moves c (written c ws) exec o l
+        go true f = wrote _ f (by-onward (toCall c l cleared (pos 0)) (λ l′ h n w. spares-call l′ c l cleared (pos 0) n))
+        go false f = wrote _ f suspended-moves
+
+    -- a line performed, by its form
+    pub performed-moves : (s : Code) → p .bound .stands .statement ≡ s → performed m c o l (standing p) (workedOut (here c o l) s) ≡ moved ws
+        → Moves c (written c ws) exec o l
+    unfolding performed workedOut mapStatement shapeOf assigned returned
+    performed-moves skip e f = wrote _ f (by-onward [] (λ l′ h n w. tt))
+    performed-moves (set x a) e f =
+        let (z, w, g) = working-moved (valueOf (here c o l) a) (assigned m c o l (standing p) x) ws f in
+        by-stored [] x z g (λ l′ h n w. tt)
+    performed-moves (new x k es) e f =
+        let (zs, n, g) = all-moved (map (valueOf (here c o l)) es) (created m c o l (standing p) x k) ws f in
+        new-moves x k zs g
+    performed-moves (call x a j es) e f =
+        let (z, w, g) = working-moved (valueOf (here c o l) a) _ ws f in
+        let (zs, n, h) = all-moved (map (valueOf (here c o l)) es) (issued m c o l (standing p) x z j) ws g in
+        call-moves x z j zs h
+    performed-moves (get x y) e f = get-moves x y f
+    performed-moves (await g) e f =
+        let (z, w, h) = working-moved (guardOf (here c o l) g) (awaited m c o l (standing p)) ws f in
+        await-moves z h
+    performed-moves (if a) e f =
+        let (z, w, h) = working-moved (valueOf (here c o l) a) (branched m c o l (standing p)) ws f in
+        branch-moves _ (ap shapeOf e) refl z h
+    performed-moves else e f = wrote _ f (by-jump _ (ap shapeOf e) refl)
+    performed-moves fi e f = wrote _ f (by-onward [] (λ l′ h n w. tt))
+    performed-moves (while a) e f =
+        let (z, w, h) = working-moved (valueOf (here c o l) a) (branched m c o l (standing p)) ws f in
+        branch-moves _ (ap shapeOf e) refl z h
+    performed-moves od e f = wrote _ f (by-jump _ (ap shapeOf e) refl)
+    performed-moves (return a) e f =
+        let (z, w, h) = working-moved (valueOf (here c o l) a) (returned m c o l (standing p)) ws f in
+        wrote _ h (returned-moves z)
