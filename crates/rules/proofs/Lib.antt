@@ -11,6 +11,7 @@ pub mod Kept
 pub mod Leaving
 pub mod Messaging
 pub mod Moved
+pub mod OneChoice
 pub mod Open
 pub mod Performing
 pub mod Replying
