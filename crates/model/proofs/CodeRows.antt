@@ -1,105 +1,132 @@
--- The row of a code line, which tells its statement and its `new`. Assumes nothing.
-use Prim.Native.Nat.{ℕ, _+_, _≤_, _<_}
-use mathlib.Core.List.{[], _∷_, _++_}
-use mathlib.Core.Option.{some}
-use mathlib.Core.Path.{_≡_, refl, sym, ap, _∙_}
+-- The row of a code line, which tells its statement, its `new` and its shape. Assumes nothing.
+use Prim.Native.Nat.{ℕ, _+_, _-_, _≤_, _<_}
+use mathlib.Core.Bool.{Bool, true, false}
+use mathlib.Core.List.{List, _++_}
+use mathlib.Core.Option.{Option, none, some}
+use mathlib.Core.Path.{_≡_, refl, sym, ap, subst, _∙_}
 use native.Mathlib.Omega.{arith}
-use lib.ListN.{length, take, drop}
-use Rattle.terms.specs.Bytes.{Text}
-use Rattle.terms.specs.Parsed.{got}
+use lib.Dec.{eqb}
+use lib.ListN.{length, getD, set, take, drop, length-take, length-drop}
+use lib.Seq.{getD-set-same}
+use Rattle.terms.specs.Bytes.{Text, bytes}
+use Rattle.terms.specs.Parsed.{Parsed, got, bad}
 use Rattle.terms.specs.Trees.{trees, guardTrees}
-use Rattle.code.specs.Statements.{newOf}
+use Rattle.whole.specs.Refusals.{wrongCode, wrongBlocks}
+use Rattle.code.specs.Blocks.{Block, shapeOf, shapeNumber, through}
 use Rattle.code.specs.Reader.{statement}
-use Rattle.code.specs.Statements.{Code}
-use Rattle.code.proofs.NewCounts.{new-class}
-use Rattle.model.specs.Vocabulary.Automaton.{State, modelCounted, classCounted, methodCounted, countsOf, limitsOf}
-use Rattle.model.specs.ModelText.{creationsOf}
-use Rattle.model.specs.Vocabulary.Belonging.{valueIn, CodeTold, MethodTold, ClassTold}
-use Rattle.model.specs.Vocabulary.Creations.{newNumber, creationsIn}
-use Rattle.model.specs.Vocabulary.Filling.{firstLine, thisLine, codePut, inCode, wholeLines, reached, PartHeld}
-use Rattle.model.specs.Vocabulary.Table.{Table, rowAt, codeRow, tableSize, Rows}
+use Rattle.code.specs.Statements.{Code, newOf}
+use Rattle.model.specs.declared.At.{At}
+use Rattle.model.specs.declared.MethodHead.{MethodHead}
+use Rattle.model.specs.declared.Row.{Row}
+use Rattle.model.specs.declared.Stated.{Stated}
+use Rattle.model.specs.InOrder.{Taken, wrong, right}
+use Rattle.model.specs.ModelText.{SoFar, creationsOf, mayStand, standing, codeLine}
+use Rattle.model.specs.Vocabulary.Belonging.{valueIn, CodeTold, ShapeTold, LineTold}
+use Rattle.model.specs.Vocabulary.Creations.{creationTold, creationsIn, newNumber}
+use Rattle.model.specs.Vocabulary.Readings.{soFar, LineLeft}
+use Rattle.model.specs.Vocabulary.Standing.{stood, limitsOf, codeTaken, CodeIs}
+use Rattle.model.specs.Vocabulary.Table.{Table, Sized, put, rowAt, codeRow, tableSize, Same}
 use Rattle.model.proofs.CreationRows.{creation-told, in-more}
-use Rattle.model.proofs.Framing.{Same, same-line, lines-kept, methods-kept, classes-kept, news-kept}
-use Rattle.model.proofs.Parts.{Known}
-use Rattle.model.proofs.TableRows.{put-length, row-own, rows-append}
+use Rattle.model.proofs.Framing.{same-line, news-kept}
+use Rattle.model.proofs.TableRows.{row-own}
 
--- the counts at a code line
-pub record AtLine (st : State) : Type 0 where
-  pub first : firstLine (countsOf st) + st .method .lines ≡ st .model .total
-  pub this : thisLine (countsOf st) ≡ firstLine (countsOf st) + length (st .method .done)
-  pub total : st .model .total ≤ 512
-  pub line : length (st .method .done) < st .method .lines
-  pub classes : st .model .classes ≤ 16
-  pub class : length (st .model .done) < st .model .classes
-  pub methods : st .class .methods ≤ 8
-  pub method : length (st .class .done) < st .class .methods
+-- what is carried on from a statement, with the blocks that are open after it
+abbrev carriedOn : ℕ → SoFar → Code → List Block → SoFar
+carriedOn at so c bs = record { total = so .total; creations = so .creations ++ creationsOf at c; blocks = bs }
 
-pub at-line : (s : Text) (t : Table) (st : State) → Known inCode s t st → AtLine st
-unfolding countsOf modelCounted classCounted methodCounted firstLine thisLine reached PartHeld
-at-line s t st k =
-    let p = k .part in
-    record { first = omega (arith, p .6); this = refl; total = k .lines; line = p .4; classes = k .classes; class = p .0; methods = p .2; method = p .1 }
+-- what a code line's value is taken for, with what is carried
+abbrev pub valueTaken : MethodHead → ℕ → SoFar → ℕ → Text → Taken (Code × SoFar)
+valueTaken m i so at value = elim (statement trees guardTrees (limitsOf m) (m .classes) value) [
+  | bad p ↦ wrong wrongCode
+  | got p c ↦ standing at (eqb (i + 1) (m .count)) so c (through (shapeOf c) (so .blocks))
+]
 
--- what a table tells once a line has joined its method: classes, methods, creations, and the method's lines with this one
-pub record Lined (s : Text) (t : Table) (st : State) (at : ℕ) (c : Code) : Type 0 where
-  pub all : length t ≡ tableSize
-  pub classes : Rows (ClassTold s (st .model .classes) t (firstLine (countsOf st))) 0 (st .model .done)
-  pub methods : Rows (MethodTold s (st .model .classes) t (firstLine (countsOf st)) (st .class .attrs) (length (st .model .done))) 0 (st .class .done)
-  pub creations : st .model .creations ++ creationsOf at c ≡ creationsIn t (thisLine (countsOf st) + 1)
-  pub lines : Rows (CodeTold s (st .model .classes) t (limitsOf st)) (firstLine (countsOf st)) (st .method .done ++ (c ∷ []))
+-- it is taken for what the value by itself is
+unfoldable with-carried : ℕ → SoFar → Taken (Code × List Block) → Taken (Code × SoFar)
+with-carried at so (wrong n) = wrong n
+with-carried at so (right r) = right (r .0, carriedOn at so (r .0) (r .1))
 
--- the table with the row of the line
-unfoldable pub lineTable : State → ℕ → ℕ → ℕ → Code → Table → Table
-lineTable st at place long c t = codePut (countsOf st) at place long (newNumber (newOf c)) t
+taken-same : (m : MethodHead) (i : ℕ) (so : SoFar) (at : ℕ) (value : Text)
+    → valueTaken m i so at value ≡ with-carried at so (codeTaken (limitsOf m) (m .classes) (eqb (i + 1) (m .count)) (so .blocks) value)
+unfolding codeTaken standing stood with-carried
+taken-same m i so at value = go (statement trees guardTrees (limitsOf m) (m .classes) value)
+  where
+    last : Bool
+    last = eqb (i + 1) (m .count)
 
-module _ (s : Text) (t : Table) (st : State) (at place long : ℕ) (c : Code) (k : Known inCode s t st) (b : AtLine st) where
-  table-length : length (lineTable st at place long c t) ≡ tableSize
-  unfolding lineTable codePut
-  table-length = put-length t _ _ ∙ k .all
+    stands : (c : Code) (o : Option (List Block)) → standing at last so c o ≡ with-carried at so (elim (stood last c o) [ none ↦ wrong wrongBlocks | some left ↦ right (c, left) ])
+    stands c none = refl
+    stands c (some bs) = go' (mayStand last c bs)
+      where
+        go' : (b : Bool) → (let x : Taken (Code × SoFar) = elim b [ false ↦ wrong wrongBlocks | true ↦ right (c, carriedOn at so c bs) ] in
+            let o : Option (List Block) = elim b [ true ↦ some bs | false ↦ none ] in
+            let y : Taken (Code × List Block) = elim o [ none ↦ wrong wrongBlocks | some left ↦ right (c, left) ] in x ≡ with-carried at so y)
+        go' true = refl
+        go' false = refl
 
-  -- the rows before are as they were
-  table-same : Same t (lineTable st at place long c t) 16 128 (thisLine (countsOf st))
-  unfolding lineTable codePut
-  table-same = same-line t _ 16 128 _ (thisLine (countsOf st)) (omega arith) (omega arith) (omega arith) (omega arith)
+    go : (p : Parsed Code) → (let x : Taken (Code × SoFar) = elim p [ bad q ↦ wrong wrongCode | got q c ↦ standing at last so c (through (shapeOf c) (so .blocks)) ] in
+        let y : Taken (Code × List Block) = elim p [
+          | bad q ↦ wrong wrongCode
+          | got q c ↦ elim (stood last c (through (shapeOf c) (so .blocks))) [ none ↦ wrong wrongBlocks | some left ↦ right (c, left) ]
+        ] in x ≡ with-carried at so y)
+    go (bad q) = refl
+    go (got q c) = stands c (through (shapeOf c) (so .blocks))
 
-  -- so the whole classes and the whole methods are told
-  table-classes : Rows (ClassTold s (st .model .classes) (lineTable st at place long c t) (firstLine (countsOf st))) 0 (st .model .done)
-  unfolding wholeLines
-  table-classes =
-      classes-kept s (st .model .classes) t (lineTable st at place long c t) _ _ 16 128 _ (st .model .done) table-same (omega arith) (omega arith) (omega arith) (omega arith) (k .told)
+-- a value that is refused
+pub taken-wrong : (m : MethodHead) (i : ℕ) (so : SoFar) (at : ℕ) (value : Text) (n : ℕ)
+    → codeTaken (limitsOf m) (m .classes) (eqb (i + 1) (m .count)) (so .blocks) value ≡ wrong n → valueTaken m i so at value ≡ wrong n
+unfolding with-carried
+taken-wrong m i so at value n e = taken-same m i so at value ∙ ap (with-carried at so) e
 
-  table-methods : Rows (MethodTold s (st .model .classes) (lineTable st at place long c t) (firstLine (countsOf st)) (st .class .attrs) (length (st .model .done))) 0 (st .class .done)
-  unfolding PartHeld countsOf modelCounted classCounted
-  table-methods =
-      methods-kept s (st .model .classes) t (lineTable st at place long c t) _ _ 16 128 _ (st .class .attrs) (length (st .model .done)) (st .class .done) table-same (omega arith) (omega arith) (omega arith) (k .part .3)
+-- a statement whose row and shape are put
+module _ (s : Text) (t : Table) (x : List ℕ) (sized : Sized t x) (m : MethodHead) (i total at place end : ℕ) (bs : List Block) (d : Stated)
+    (room : m .first + i < 512) (from : place ≤ end) (to : end ≤ length s)
+    (is : CodeIs (take (end - place) (drop place s)) m (eqb (i + 1) (m .count)) bs d) where
+  abbrev line : ℕ
+  line = m .first + i
 
-  -- the row of the line leads to its value, and tells its `new`
-  line-row : rowAt (lineTable st at place long c t) (codeRow (thisLine (countsOf st))) ≡ record { 0 = place; 1 = long; 2 = at; 3 = newNumber (newOf c) }
-  unfolding lineTable codePut
-  line-row = row-own t (codeRow (thisLine (countsOf st))) _ (k .all) (omega arith)
+  abbrev row : Row
+  row = record { 0 = place; 1 = end - place; 2 = at; 3 = d .new }
 
-  module _ (fits : place + long ≤ length s) (e : statement trees guardTrees (limitsOf st) (st .model .classes) (take long (drop place s)) ≡ got long c) where
-    class-below : (n : ℕ × ℕ) → newOf c ≡ some n → n .0 < 16
-    class-below n f = omega (arith, new-class trees guardTrees (limitsOf st) (st .model .classes) (take long (drop place s)) long c n e f (omega arith))
+  abbrev u : Table
+  u = put t (codeRow line) row
 
-    table-creations : st .model .creations ++ creationsOf at c ≡ creationsIn (lineTable st at place long c t) (thisLine (countsOf st) + 1)
-    unfolding reached
-    table-creations =
-        let u = lineTable st at place long c t in
-        let i = thisLine (countsOf st) in
-        rw (in-more u i, line-row, creation-told at c class-below, news-kept t u 16 128 i table-same i (omega arith))
-        (ap (λ cs. cs ++ creationsOf at c) (k .creations))
+  abbrev y : List ℕ
+  y = set x line (d .shape)
 
-    line-told : CodeTold s (st .model .classes) (lineTable st at place long c t) (limitsOf st) (thisLine (countsOf st)) c
-    unfolding CodeTold valueIn
-    line-told = rw line-row (fits, e)
+  rows-same : Same t x u y 16 128 line
+  rows-same = same-line t x row 16 128 line line (d .shape) room (omega arith) (omega arith) (omega arith)
 
-    table-lines : Rows (CodeTold s (st .model .classes) (lineTable st at place long c t) (limitsOf st)) (firstLine (countsOf st)) (st .method .done ++ (c ∷ []))
-    unfolding PartHeld countsOf modelCounted
-    table-lines =
-        rows-append _ (firstLine (countsOf st)) (st .method .done) c
-        (lines-kept s (st .model .classes) t (lineTable st at place long c t) 16 128 _ (limitsOf st) (firstLine (countsOf st)) (st .method .done) table-same (omega arith) (k .part .8))
-        (rw (sym (b .this)) line-told)
+  -- the row leads to its value, and tells its `new`
+  line-row : rowAt u (codeRow line) ≡ row
+  line-row = row-own t (codeRow line) row (sized .0) (omega arith)
 
-    pub lined : Lined s (lineTable st at place long c t) st at c
-    lined = record { all = table-length; classes = table-classes; methods = table-methods; creations = table-creations; lines = table-lines }
+  value-length : length (take (end - place) (drop place s)) ≡ end - place
+  value-length = omega (arith, length-take (end - place) (drop place s), length-drop place s)
+
+  line-told : LineTold s (m .classes) u y (limitsOf m) line (is .code)
+  unfolding LineTold CodeTold ShapeTold valueIn
+  line-told = (
+    rw line-row (omega arith, is .tree ∙ ap (λ n. got n (is .code)) value-length),
+    getD-set-same x line (d .shape) 0 (omega (arith, sized .1)) ∙ is .shape,
+  )
+
+  news : creationsIn t line ++ creationsOf at (is .code) ≡ creationsIn u (line + 1)
+  news = rw (in-more u line, line-row, news-kept rows-same line (omega arith), is .new, creation-told at (is .code) (is .class)) refl
+
+  abbrev pub carried : SoFar
+  carried = carriedOn at (soFar t line total bs) (is .code) (is .after)
+
+  pub line-taken : valueTaken m i (soFar t line total bs) at (take (end - place) (drop place s)) ≡ right (is .code, carried)
+  unfolding with-carried
+  line-taken = taken-same m i (soFar t line total bs) at _ ∙ ap (with-carried at (soFar t line total bs)) (is .taken)
+
+  pub line-left : (v : Table) → v ≡ u → LineLeft s t x v y m i total (is .code, carried) (d .blocks)
+  line-left v e = subst (λ w. LineLeft s t x w y m i total (is .code, carried) (d .blocks)) (sym e) (record {
+    blocks = is .after;
+    so = ap (λ cs. record { total = total; creations = cs; blocks = is .after }) news;
+    number = is .blocks;
+    stands = is .stands;
+    kept = rows-same;
+    told = line-told;
+  })

@@ -72,7 +72,7 @@ no-items [] e = refl
 no-items (x ∷ xs) e = absurd (omega arith)
 
 -- a line that may stand leaves few blocks open
-may-depth : (last : Bool) (c : Code) (bs : List Block) → mayStand last c bs ≡ true → length bs ≤ deepest
+pub may-depth : (last : Bool) (c : Code) (bs : List Block) → mayStand last c bs ≡ true → length bs ≤ deepest
 unfolding mayStand
 may-depth true c bs e = let z : length bs ≡ 0 = eqb-true _ _ (both-right (isShape Shape.Return (shapeOf c)) _ e) in omega arith
 may-depth false c bs e = leb-true _ _ e
@@ -93,7 +93,7 @@ is-return l e = go l (eqb-true _ _ e)
     go Shape.Plain e = absurd (omega arith)
 
 -- a last line that may stand is a `return`, and leaves no block open
-may-last : (c : Code) (bs : List Block) → mayStand true c bs ≡ true → (bs ≡ []) × (shapeOf c ≡ Shape.Return)
+pub may-last : (c : Code) (bs : List Block) → mayStand true c bs ≡ true → (bs ≡ []) × (shapeOf c ≡ Shape.Return)
 unfolding mayStand
 may-last c bs e =
     let outside = both-right (isShape Shape.Return (shapeOf c)) (eqb (length bs) 0) e in

@@ -10,13 +10,11 @@ use native.Mathlib.Omega.{arith}
 use lib.Dec.{eqb}
 use lib.ListN.{length, getElem?}
 use Rattle.whole.specs.Refusals.{accepted, wrongCode}
-use Rattle.terms.specs.Bytes.{Text}
-use Rattle.model.specs.Vocabulary.Belonging.{ClassTold}
-use Rattle.model.specs.Vocabulary.Creations.{creationTold, creationsFrom, newFits}
+use Rattle.model.specs.Vocabulary.Creations.{creationTold, creationsFrom, newFits, GivenTold}
 use Rattle.model.specs.Judge.{givenTo, countsJudged, model, refusal, verdictOf}
 use Rattle.model.specs.Model.{Class, Model}
 use Rattle.model.specs.ModelText.{Creation}
-use Rattle.model.specs.Vocabulary.Table.{Table, Rows, rowAt, classRow, codeRow}
+use Rattle.model.specs.Vocabulary.Table.{Table, rowAt, classRow, codeRow}
 use Rattle.model.specs.declared.Row.{Row}
 use Rattle.model.specs.declared.Verdict.{Verdict}
 use Rattle.model.proofs.TableRows.{rows-at}
@@ -43,13 +41,11 @@ module _ (m : Model) (k : ℕ) where
   given-none h = rw (givenTo, item-past m k h)
 
 -- the second number of its row is what a class is to be given
-pub given-told : (s : Text) (n : ℕ) (t : Table) (filled : ℕ) (m : Model) (k : ℕ)
-    → Rows (ClassTold s n t filled) 0 m → k < length m → givenTo m k ≡ rowAt t (classRow k) .1
-unfolding ClassTold
-given-told s n t filled m k told h =
+pub given-told : (t : Table) (m : Model) (k : ℕ) → GivenTold t m → k < length m → givenTo m k ≡ rowAt t (classRow k) .1
+given-told t m k told h =
     let c = item-at m k h in
-    let p = rw (zero-add k) at (rows-at (ClassTold s n t filled) 0 m k (c .0) told (c .1)) in
-    given-of m k (c .0) (c .1) ∙ sym (p .1)
+    let p = rows-at (λ i (x : Class). rowAt t (classRow i) .1 ≡ x .given) 0 m k (c .0) told (c .1) in
+    given-of m k (c .0) (c .1) ∙ sym (rw (zero-add k) at p)
 
 -- the first of some creations: its count fits, or it is refused
 module _ (m : Model) (c : Creation) (cs : List Creation) where

@@ -18,9 +18,9 @@ use Rattle.model.proofs.TableRows.{rows-at}
 
 -- a text, the table that belongs to it, the model that it gives, and a class of it
 module _ (s : Text) (t : Table) (m : Model) (b : Belongs s t m) (k : ℕ) (c : Class) (e : getElem? m k ≡ some c) where
-  class-told : ClassTold s (length m) t allLines k c
+  class-told : ClassTold t allLines (CodeTold s (length m) t) k c
   unfolding Belongs
-  class-told = subst (λ n. ClassTold s (length m) t allLines n c) (zero-add k) (rows-at _ 0 m k c b e)
+  class-told = subst (λ n. ClassTold t allLines (CodeTold s (length m) t) n c) (zero-add k) (rows-at _ 0 m k c b e)
 
   pub attrs-at : rowAt t (classRow k) .0 ≡ c .attrs
   unfolding ClassTold
@@ -45,9 +45,9 @@ module _ (s : Text) (t : Table) (m : Model) (b : Belongs s t m) (k : ℕ) (c : C
 
   -- a method of the class
   module _ (j : ℕ) (o : Method) (f : getElem? (c .methods) j ≡ some o) where
-    method-told : MethodTold s (length m) t allLines (c .attrs) k j o
+    method-told : MethodTold t allLines (CodeTold s (length m) t) (c .attrs) k j o
     unfolding ClassTold
-    method-told = subst (λ n. MethodTold s (length m) t allLines (c .attrs) k n o) (zero-add j) (rows-at _ 0 (c .methods) j o (class-told .5) f)
+    method-told = subst (λ n. MethodTold t allLines (CodeTold s (length m) t) (c .attrs) k n o) (zero-add j) (rows-at _ 0 (c .methods) j o (class-told .5) f)
 
     pub params-at : rowAt t (methodRow k j) .0 ≡ o .params
     unfolding MethodTold

@@ -13,10 +13,8 @@ use Rattle.terms.specs.Leaves.{decimal}
 use Rattle.terms.specs.Parsed.{Parsed, got, bad, word}
 use Rattle.terms.proofs.Digits.{decimal-below}
 use Rattle.terms.proofs.Moving.{within-text, no-got, same-place, word-yes, word-no, word-none}
-use Rattle.model.specs.Vocabulary.Keys.{nameOf}
 use Rattle.model.specs.Numbers.{numberIn}
-use Rattle.model.specs.declared.Key.{Key}
-use Rattle.model.specs.declared.Key.the-variants as Key
+use Rattle.model.specs.Vocabulary.Readings.{allPositive}
 use Rattle.model.proofs.NumberLines.{number-none, number-longer, number-below, number-within}
 
 -- a number line is from its lowest to its highest
@@ -41,11 +39,7 @@ number-range least most value n e = go (decimal most value 0) refl
             let c = number-longer least most value at k f (eqb-false _ _ t) in
             absurd (let z : _≡_ {A = ℕ} 0 1 = cc in omega arith)
 
--- no byte of a word is 0, which is what stands past the end
-unfoldable pub allPositive : Text → Bool
-allPositive [] = true
-allPositive (b ∷ w) = elim (ltb 0 b) [ true ↦ allPositive w | false ↦ false ]
-
+-- the first byte of a key, and the others
 positive-first : (b : ℕ) (w : Text) → allPositive (b ∷ w) ≡ true → (0 < b) × (allPositive w ≡ true)
 unfolding allPositive
 positive-first b w h = go (ltb 0 b) refl
@@ -66,24 +60,3 @@ word-within (b ∷ w) s at p u h l e = go (eqb (byteAt s at) b) refl (word-withi
         let k = positive-first b w h in
         let n = within-text s at b (eqb-true _ _ f) (k .0) in
         rest (k .1) (omega arith) (sym (word-yes b w s at f) ∙ e)
-
--- no name of a key has a 0
-name-positive : (k : Key) → allPositive (nameOf k) ≡ true
-unfolding allPositive nameOf
-name-positive Key.Creol = refl
-name-positive Key.Classes = refl
-name-positive Key.Class = refl
-name-positive Key.Attrs = refl
-name-positive Key.Given = refl
-name-positive Key.Run = refl
-name-positive Key.Methods = refl
-name-positive Key.Method = refl
-name-positive Key.Params = refl
-name-positive Key.Locals = refl
-name-positive Key.Lines = refl
-name-positive Key.Code = refl
-name-positive Key.End = refl
-
--- a key that was read ends within the line
-pub key-within : (k : Key) (s : Text) (p : ℕ) (u : Unit {0}) → word (nameOf k) s 0 ≡ got p u → p ≤ length s
-key-within k s p u e = word-within (nameOf k) s 0 p u (name-positive k) (omega arith) e

@@ -1,181 +1,177 @@
 -- A verdict is small, whatever the text: its number is at most 6, and its line at most 32,769. Assumes nothing.
-use Prim.Native.Nat.{ℕ, suc, _+_, _≤_}
+use Prim.Native.Nat.{ℕ, zero, suc, _+_, _≤_}
 use mathlib.Core.Bool.{Bool, true, false}
-use mathlib.Core.List.{List, [], _∷_, _++_, append-nil}
+use mathlib.Core.List.{List, [], _∷_, _++_}
 use mathlib.Core.Option.{Option, none, some}
-use mathlib.Core.Path.{_≡_, refl, sym, subst}
+use mathlib.Core.Path.{_≡_, refl}
 use native.Mathlib.Omega.{arith}
-use borrow.Author.Tests.{ltb-true, ltb-false}
+use borrow.Author.Tests.{ltb-false}
 use lib.Dec.{ltb, eqb}
 use lib.ListN.{length, drop}
-use Rattle.whole.specs.Refusals.{brokenLine, wrongKey, wrongNumber, wrongCode, wrongBlocks}
-use Rattle.terms.specs.Bytes.{Text}
+use Rattle.whole.specs.Lists.{Every}
+use Rattle.whole.specs.Refusals.{textTooLong, brokenLine, wrongKey, wrongNumber, wrongCode, wrongBlocks}
+use Rattle.terms.specs.Bytes.{Text, bytes}
+use Rattle.terms.specs.declared.Limits.{Limits}
 use Rattle.terms.specs.Parsed.{Parsed, got, bad, word}
 use Rattle.terms.specs.Trees.{trees, guardTrees}
 use Rattle.code.specs.Blocks.{Block, shapeOf, through}
-use Rattle.code.specs.Statements.{newOf}
+use Rattle.code.specs.Statements.{Code, newOf}
 use Rattle.code.specs.Reader.{statement}
-use Rattle.code.specs.Statements.{Code}
-use Rattle.model.specs.declared.Asked.{Asked}
-use Rattle.model.specs.declared.Asked.the-variants as Asked
-use Rattle.model.specs.declared.Key.{Key}
-use Rattle.model.specs.declared.Key.the-variants as Key
-use Rattle.model.specs.Vocabulary.Automaton.{State, begin, freshModel, countsOf, limitsOf, modelAnew, classAnew, methodAnew, classJoined, classClosed, nextMethod, methodJoined, methodClosed, methodsBegun, linesCounted, numberFed, numberLine, creationsJoined, lineJoined, stated, blockLine, codeLine, valueLine, feed, Fed, refused, fed}
-use Rattle.model.specs.ModelText.{Creation, creationsOf}
-use Rattle.model.specs.Vocabulary.Counts.{lowest, highest, isLast, mayStand}
-use Rattle.model.specs.Judge.{Judged, refusal, model, givenTo, countsJudged, judged, verdictOf, judge}
-use Rattle.model.specs.Vocabulary.Folding.{endFolded, linesFolded}
-use Rattle.model.specs.Vocabulary.Keys.{nameOf, asked}
+use Rattle.model.specs.InOrder.{LinesRead, failed, after, Reader, done, _>>=_, Taken, wrong, right, passed, keyLine, numberLine, each}
+use Rattle.model.specs.Judge.{Judged, refusal, model, givenTo, countsJudged, endJudged, judged, verdictOf, judge}
 use Rattle.model.specs.Lines.{Line, terminated, unterminated, grown, lines, lineFeed, sound, content, longestText}
 use Rattle.model.specs.Model.{Model}
+use Rattle.model.specs.ModelText.{Creation, SoFar, creationsOf, mayStand, standing, codeLine, linesBegun, readMethod, readClass, readModel}
 use Rattle.model.specs.Numbers.{numberIn}
-use Rattle.model.specs.Vocabulary.Table.{Rows}
-use Rattle.model.proofs.TableRows.{rows-append, rows-keep}
-use Rattle.model.proofs.Verdicts.{judged-long, judged-short}
 
--- creations that stand at or before a line
-abbrev Before : ℕ → List Creation → Type 0
-Before at cs = Rows (λ _ c. c .at ≤ at) 0 cs
+-- a text of so many lines, less one
+module _ (last : ℕ) where
+  -- creations that stand at or before its last line
+  abbrev Before : List Creation → Type 0
+  Before cs = Every (λ c. c .at ≤ last) cs
 
--- the creations of a state stay, save that a code line adds its own
-next-creations : (st : State) → nextMethod st .model .creations ≡ st .model .creations
-unfolding nextMethod classClosed classJoined modelAnew classAnew
-next-creations st = go (ltb (length (st .class .done)) (st .class .methods)) (ltb (length (classJoined st .done)) (st .model .classes))
-  where
-    go : (b d : Bool)
-        → (let after : State =
-        elim b [ true ↦ classAnew st Key.Method (st .class) | false ↦ elim d [ true ↦ modelAnew st Key.Class (classJoined st) | false ↦ modelAnew st Key.End (classJoined st) ] ] in
-        after .model .creations ≡ st .model .creations)
-    go true d = refl
-    go false true = refl
-    go false false = refl
+  -- what reading gives is small: the number up to 6 and the line of a refusal, or the place reached, and what was read
+  Small : {A : Type 0} → (A → Type 0) → LinesRead A → Type 0
+  Small P (failed v) = (v .number ≤ 6) × (v .line ≤ last)
+  Small P (after a at ls) = (at + length ls ≤ last) × P a
 
-numbered-creations : (k : Key) (st : State) (n : ℕ) → numberFed k st n .model .creations ≡ st .model .creations
-unfolding numberFed modelAnew classAnew methodAnew linesCounted
-numbered-creations Key.Creol st n = refl
-numbered-creations Key.Classes st n = refl
-numbered-creations Key.Class st n = refl
-numbered-creations Key.Attrs st n = refl
-numbered-creations Key.Given st n = refl
-numbered-creations Key.Run st n = refl
-numbered-creations Key.Methods st n = next-creations (classAnew st Key.Method (methodsBegun st n))
-numbered-creations Key.Method st n = refl
-numbered-creations Key.Params st n = refl
-numbered-creations Key.Locals st n = refl
-numbered-creations Key.Lines st n = refl
-numbered-creations Key.Code st n = refl
-numbered-creations Key.End st n = refl
+  abbrev Reads : {A : Type 0} → (A → Type 0) → Reader A → Type 0
+  Reads P r = (at : ℕ) (ls : List Line) → at + length ls ≤ last → Small P (r at ls)
 
-stated-creations : (at : ℕ) (st : State) (c : Code) (bs : List Block) → stated at st c bs .model .creations ≡ st .model .creations ++ creationsOf at c
-unfolding stated methodClosed lineJoined creationsJoined modelAnew classAnew methodAnew
-stated-creations at st c bs = go (isLast (countsOf st))
-  where
-    go : (b : Bool)
-        → (let after : State = elim b [ true ↦ methodClosed (lineJoined at st c bs) | false ↦ lineJoined at st c bs ] in
-        after .model .creations ≡ st .model .creations ++ creationsOf at c)
-    go true = next-creations (classAnew (lineJoined at st c bs) Key.Method (methodJoined (lineJoined at st c bs)))
-    go false = refl
+  -- with what is carried on
+  abbrev Carried : {A : Type 0} → A × SoFar → Type 0
+  Carried r = Before (r .1 .creations)
 
-creations-before : (at : ℕ) (cs : List Creation) (c : Code) → Before at cs → Before at (cs ++ creationsOf at c)
-unfolding creationsOf
-creations-before at cs c h = go (newOf c)
-  where
-    go : (o : Option (ℕ × ℕ))
-        → (let more : List Creation = elim o [ none ↦ [] | some n ↦ record { at = at; class = n .0; count = n .1 } ∷ [] ] in Before at (cs ++ more))
-    go none = subst (Before at) (sym (append-nil cs)) h
-    go (some n) = rows-append (λ _ c. c .at ≤ at) 0 cs _ h (omega arith)
+  reads-done : {A : Type 0} (P : A → Type 0) (a : A) → P a → Reads P (done a)
+  unfolding done Small
+  reads-done P a p at ls h = (h, p)
 
--- what a line makes is small: a number up to 6, or a state whose creations stand at or before it
-Small : ℕ → Fed → Type 0
-Small at (refused n) = n ≤ 6
-Small at (fed st) = Before at (st .model .creations)
-
-module _ (at : ℕ) (st : State) (h : Before at (st .model .creations)) where
-  small-number : (value : Text) → Small at (numberLine st value)
-  unfolding numberLine
-  small-number value = go (numberIn (lowest (st .key) (countsOf st)) (highest (st .key) (countsOf st)) value)
+  reads-then : {A B : Type 0} (Q : A → Type 0) (P : B → Type 0) (r : Reader A) (k : A → Reader B) → Reads Q r → ((a : A) → Q a → Reads P (k a)) → Reads P (r >>= k)
+  unfolding _>>=_ Small
+  reads-then {A} {B} Q P r k f g at ls h = go (r at ls) (f at ls h)
     where
-      go : (o : Option ℕ) → Small at (elim o [ some n ↦ fed (numberFed (st .key) st n) | none ↦ refused wrongNumber ])
-      go none = unfold Small in omega arith
-      go (some n) = unfold Small in subst (Before at) (sym (numbered-creations (st .key) st n)) h
+      go : (x : LinesRead A) → Small Q x → Small P (elim x [ failed v ↦ failed v | after a n l ↦ k a n l ])
+      go (failed v) w = w
+      go (after a n l) w = g a (w .1) n l (w .0)
 
-  small-standing : (c : Code) (bs : List Block) (b : Bool) → Small at (elim b [ true ↦ fed (stated at st c bs) | false ↦ refused wrongBlocks ])
-  small-standing c bs true = unfold Small in subst (Before at) (sym (stated-creations at st c bs)) (creations-before at _ c h)
-  small-standing c bs false = unfold Small in omega arith
+  -- what a line is taken for
+  Takes : {A : Type 0} → (A → Type 0) → Taken A → Type 0
+  Takes P (wrong n) = n ≤ 6
+  Takes P (right a) = P a
 
-  small-block : (c : Code) → Small at (blockLine at st c)
-  unfolding blockLine
-  small-block c = go (through (shapeOf c) (st .method .blocks))
+  small-passed : {A : Type 0} (P : A → Type 0) (t : Taken A) (at : ℕ) (l : Line) (ls : List Line) → at + length (l ∷ ls) ≤ last → Takes P t → Small P (passed t at ls)
+  unfolding passed Small Takes
+  small-passed P (wrong n) at l ls h w = (w, omega arith)
+  small-passed P (right a) at l ls h w = (omega arith, w)
+
+  reads-key : {A : Type 0} (P : A → Type 0) (key : Text) (value : ℕ → Text → Taken A) → ((at : ℕ) (v : Text) → at ≤ last → Takes P (value at v)) → Reads P (keyLine key value)
+  unfolding keyLine Small Takes
+  reads-key P key value f at [] h = (omega arith, omega arith)
+  reads-key {A} P key value f at (l ∷ ls) h = go (sound l) (word key (content l) 0)
     where
-      go : (o : Option (List Block))
-          → Small at (elim o [ none ↦ refused wrongBlocks | some bs ↦ elim (mayStand (countsOf st) (shapeOf c) bs) [ true ↦ fed (stated at st c bs) | false ↦ refused wrongBlocks ] ])
-      go none = unfold Small in omega arith
-      go (some bs) = small-standing c bs (mayStand (countsOf st) (shapeOf c) bs)
+      go : (b : Bool) (w : Parsed (Unit {0})) → Small {A = A} P (elim b [
+        | false ↦ passed (wrong brokenLine) at ls
+        | true ↦ elim w [ bad p ↦ passed (wrong wrongKey) at ls | got p u ↦ passed (value at (drop p (content l))) at ls ]
+      ])
+      go false w = small-passed P (wrong brokenLine) at l ls h (omega arith)
+      go true (bad p) = small-passed P (wrong wrongKey) at l ls h (omega arith)
+      go true (got p u) = small-passed P _ at l ls h (f at (drop p (content l)) (omega arith))
 
-  small-code : (value : Text) → Small at (codeLine at st value)
-  unfolding codeLine
-  small-code value = go (statement trees guardTrees (limitsOf st) (st .model .classes) value)
+  reads-number : (key : Text) (low high : ℕ) → Reads (λ _. Unit {0}) (numberLine key low high)
+  unfolding numberLine Takes
+  reads-number key low high = reads-key _ key _ (λ at v _. go (numberIn low high v))
     where
-      go : (p : Parsed Code) → Small at (elim p [ got e c ↦ blockLine at st c | bad e ↦ refused wrongCode ])
-      go (got e c) = small-block c
-      go (bad e) = unfold Small in omega arith
+      go : (o : Option ℕ) → Takes {A = ℕ} (λ _. Unit {0}) (elim o [ none ↦ wrong wrongNumber | some n ↦ right n ])
+      go none = omega arith
+      go (some n) = tt
 
-  small-value : (a : Asked) (value : Text) → Small at (valueLine at st a value)
-  unfolding valueLine
-  small-value Asked.Number value = small-number value
-  small-value Asked.Code value = small-code value
-  small-value Asked.Nothing value = unfold Small in omega arith
+  reads-each : {A : Type 0} (one : ℕ → SoFar → Reader (A × SoFar)) → ((i : ℕ) (so : SoFar) → Before (so .creations) → Reads Carried (one i so))
+      → (n i : ℕ) (so : SoFar) → Before (so .creations) → Reads Carried (each n i so one)
+  unfolding each
+  reads-each one f zero i so h = reads-done _ _ h
+  reads-each one f (suc n) i so h =
+      reads-then _ _ (one i so) _ (f i so h) (λ a b. reads-then _ _ _ _ (reads-each one f n (i + 1) (a .1) b) (λ r c. reads-done _ _ c))
 
-  small-keyed : (l : Line) (p : Parsed (Unit {0}))
-      → Small at (elim p [ bad e ↦ refused wrongKey | got e u ↦ valueLine at st (asked (st .key)) (drop e (content l)) ])
-  small-keyed l (bad e) = unfold Small in omega arith
-  small-keyed l (got e u) = small-value (asked (st .key)) (drop e (content l))
+  -- one creation more
+  before-more : (cs ds : List Creation) → Before cs → Before ds → Before (cs ++ ds)
+  unfolding Every
+  before-more [] ds h k = k
+  before-more (c ∷ cs) ds h k = (h .0, before-more cs ds (h .1) k)
 
-  small-feed : (l : Line) → Small at (feed at st l)
-  unfolding feed
-  small-feed l = go (sound l)
+  before-line : (at : ℕ) (c : Code) → at ≤ last → Before (creationsOf at c)
+  unfolding creationsOf Every
+  before-line at c h = go (newOf c)
     where
-      go : (b : Bool)
-          → Small at (elim b [ false ↦ refused brokenLine | true ↦ elim (word (nameOf (st .key)) (content l) 0) [ bad p ↦ refused wrongKey | got p u ↦ valueLine at st (asked (st .key)) (drop p (content l)) ] ])
-      go false = unfold Small in omega arith
-      go true = small-keyed l (word (nameOf (st .key)) (content l) 0)
+      go : (o : Option (ℕ × ℕ)) → Before (elim o [ none ↦ [] | some n ↦ record { at = at; class = n .0; count = n .1 } ∷ [] ])
+      go none = tt
+      go (some n) = (h, tt)
 
--- a refusal with a number up to 6, at a line up to one
-Within : ℕ → Judged → Type 0
-Within last (refusal v) = (v .number ≤ 6) × (v .line ≤ last)
-Within last (model m) = Unit {0}
+  -- a code line, a method, a class, the whole
+  takes-standing : (at : ℕ) (b : Bool) (so : SoFar) (c : Code) → at ≤ last → Before (so .creations) → (o : Option (List Block)) → Takes (Carried {A = Code}) (standing at b so c o)
+  unfolding standing Takes
+  takes-standing at b so c h k none = omega arith
+  takes-standing at b so c h k (some bs) = go (mayStand b c bs)
+    where
+      go : (t : Bool) → Takes (Carried {A = Code}) (elim t [
+        | false ↦ wrong wrongBlocks
+        | true ↦ right (c, record { total = so .total; creations = so .creations ++ creationsOf at c; blocks = bs })
+      ])
+      go false = omega arith
+      go true = before-more (so .creations) _ k (before-line at c h)
 
-within-more : (j k : ℕ) (x : Judged) → j ≤ k → Within j x → Within k x
-unfolding Within
-within-more j k (refusal v) h w = (w .0, omega (arith, w .1))
-within-more j k (model m) h w = tt
+  reads-code : (lim : Limits) (classes count i : ℕ) (so : SoFar) → Before (so .creations) → Reads Carried (codeLine lim classes count i so)
+  unfolding codeLine Takes
+  reads-code lim classes count i so h = reads-key _ (bytes "code=") _ (λ at v k. go at k (statement trees guardTrees lim classes v))
+    where
+      go : (at : ℕ) → at ≤ last → (p : Parsed Code) → Takes (Carried {A = Code}) (elim p [
+        | bad p ↦ wrong wrongCode
+        | got p c ↦ standing at (eqb (i + 1) count) so c (through (shapeOf c) (so .blocks))
+      ])
+      go at k (bad p) = omega arith
+      go at k (got p c) = takes-standing at _ so c k h _
 
-within-counts : (m : Model) (last i : ℕ) (cs : List Creation) → Rows (λ _ c. c .at ≤ last) i cs → Within last (countsJudged m cs)
-unfolding Rows countsJudged Within
-within-counts m last i [] h = tt
-within-counts m last i (c ∷ cs) h = go (eqb (c .count) (givenTo m (c .class))) (within-counts m last (suc i) cs (h .1))
-  where
-    go : (b : Bool) → Within last (countsJudged m cs) → Within last (elim b [ true ↦ countsJudged m cs | false ↦ refusal (record { number = wrongCode; line = c .at }) ])
-    go true w = w
-    go false w = (omega arith, h .0)
+  reads-method : (classes attrs run j : ℕ) (so : SoFar) → Before (so .creations) → Reads Carried (readMethod classes attrs run j so)
+  unfolding readMethod linesBegun
+  reads-method classes attrs run j so h =
+      reads-then _ _ _ _ (reads-number _ _ _) (λ _ _. reads-then _ _ _ _ (reads-number _ _ _) (λ _ _. reads-then _ _ _ _ (reads-number _ _ _) (λ locals _.
+      reads-then _ _ _ _ (reads-number _ _ _) (λ count _. reads-then _ _ _ _
+      (reads-each _ (reads-code (record { attrs = attrs; locals = locals }) classes count) count 0 _ h) (λ r k. reads-done _ _ k)))))
 
-within-end : (at : ℕ) (st : State) (a : Asked) → Before at (st .model .creations) → Within at (endFolded at st a)
-unfolding endFolded Within
-within-end at st Asked.Number h = (omega arith, omega arith)
-within-end at st Asked.Code h = (omega arith, omega arith)
-within-end at st Asked.Nothing h = within-counts (st .model .done) at 0 (st .model .creations) h
+  reads-class : (classes k : ℕ) (so : SoFar) → Before (so .creations) → Reads Carried (readClass classes k so)
+  unfolding readClass
+  reads-class classes k so h =
+      reads-then _ _ _ _ (reads-number _ _ _) (λ _ _. reads-then _ _ _ _ (reads-number _ _ _) (λ attrs _. reads-then _ _ _ _ (reads-number _ _ _) (λ _ _.
+      reads-then _ _ _ _ (reads-number _ _ _) (λ run _. reads-then _ _ _ _ (reads-number _ _ _) (λ count _. reads-then _ _ _ _
+      (reads-each _ (reads-method classes attrs run) count 0 so h) (λ r k. reads-done _ _ k))))))
 
-within-lines : (at : ℕ) (st : State) (ls : List Line) → Before at (st .model .creations) → Within (at + length ls) (linesFolded at st ls)
-unfolding linesFolded
-within-lines at st [] h = within-more at (at + 0) _ (omega arith) (within-end at st (asked (st .key)) h)
-within-lines at st (l ∷ ls) h = go (feed at st l) (small-feed at st h l) (λ after. within-lines (at + 1) after ls)
-  where
-    go : (f : Fed) → Small at f → ((after : State) → Before (at + 1) (after .model .creations) → Within (at + 1 + length ls) (linesFolded (at + 1) after ls))
-        → Within (at + length (l ∷ ls)) (elim f [ refused n ↦ refusal (record { number = n; line = at }) | fed after ↦ linesFolded (at + 1) after ls ])
-    go (refused n) w rest = unfold Within Small in (w, omega arith)
-    go (fed after) w rest =
-        let b : Before at (after .model .creations) = unfold Small in w in
-        within-more (at + 1 + length ls) _ _ (omega arith) (rest after (rows-keep (λ _ c. c .at ≤ at) (λ _ c. c .at ≤ at + 1) 0 _ (λ i c _ _ e. omega arith) b))
+  reads-model : Reads Carried readModel
+  unfolding readModel Every
+  reads-model =
+      reads-then _ _ _ _ (reads-number _ _ _) (λ _ _. reads-then _ _ _ _ (reads-number _ _ _) (λ count _. reads-each _ (reads-class count) count 0 _ tt))
+
+  -- a refusal with a number up to 6, at a line up to the last
+  Within : Judged → Type 0
+  Within (refusal v) = (v .number ≤ 6) × (v .line ≤ last)
+  Within (model m) = Unit {0}
+
+  within-counts : (m : Model) (cs : List Creation) → Before cs → Within (countsJudged m cs)
+  unfolding Every countsJudged Within
+  within-counts m [] h = tt
+  within-counts m (c ∷ cs) h = go (eqb (c .count) (givenTo m (c .class))) (within-counts m cs (h .1))
+    where
+      go : (b : Bool) → Within (countsJudged m cs) → Within (elim b [ true ↦ countsJudged m cs | false ↦ refusal (record { number = wrongCode; line = c .at }) ])
+      go true w = w
+      go false w = (omega arith, h .0)
+
+  within-end : (x : LinesRead (Model × SoFar)) → Small Carried x → Within (endJudged x)
+  unfolding endJudged Within Small
+  within-end (failed v) w = w
+  within-end (after r at []) w = within-counts (r .0) (r .1 .creations) (w .1)
+  within-end (after r at (l ∷ ls)) w = go (sound l)
+    where
+      go : (b : Bool) → Within (elim b [ false ↦ refusal (record { number = brokenLine; line = at }) | true ↦ refusal (record { number = wrongKey; line = at }) ])
+      go false = (omega arith, omega arith)
+      go true = (omega arith, omega arith)
 
 -- a text has no more lines than bytes
 grown-length : (b : ℕ) (ls : List Line) → length (grown b ls) ≤ suc (length ls)
@@ -193,16 +189,14 @@ lines-length (b ∷ s) = go (eqb b lineFeed) (lines-length s)
     go true h = omega arith
     go false h = omega (arith, grown-length b (lines s))
 
--- a text that is too long, and any other by the fold of its lines
+-- a text that is too long, and any other by its lines
 within-judged : (s : Text) → Within 32769 (judged s)
+unfolding judged Within
 within-judged s = go (ltb longestText (length s)) refl
   where
-    go : (b : Bool) → ltb longestText (length s) ≡ b → Within 32769 (judged s)
-    go true e = rw (judged-long s (ltb-true _ _ e)) (unfold Within in (omega arith, omega arith))
-    go false e =
-        let short = ltb-false longestText (length s) e in
-        rw (sym (judged-short s short))
-        (within-more (1 + length (lines s)) _ _ (omega (arith, lines-length s)) (within-lines 1 begin (lines s) (unfold begin freshModel Rows in tt)))
+    go : (b : Bool) → ltb longestText (length s) ≡ b → Within 32769 (elim b [ true ↦ refusal (record { number = textTooLong; line = 0 }) | false ↦ endJudged (readModel 1 (lines s)) ])
+    go true e = (omega arith, omega arith)
+    go false e = within-end 32769 _ (reads-model 32769 1 (lines s) (omega (arith, lines-length s, ltb-false longestText (length s) e)))
 
 -- the verdict on any text
 pub judge-small : (s : Text) → (judge s .number ≤ 6) × (judge s .line ≤ 32769)

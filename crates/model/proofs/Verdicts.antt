@@ -1,4 +1,4 @@
--- The verdict on a text, line by line as the code gives it. Assumes nothing.
+-- The verdict on a text by how it ends, and the table that belongs to it where it is accepted. Assumes nothing.
 use Prim.Native.Nat.{ℕ, _≤_, _<_}
 use mathlib.Core.Bool.{Bool, true, false}
 use mathlib.Core.List.{List, [], _∷_}
@@ -6,55 +6,70 @@ use mathlib.Core.Path.{_≡_, refl, sym, ap, subst, _∙_}
 use native.Mathlib.Omega.{arith}
 use borrow.Author.Tests.{lt-ltb, le-ltb}
 use lib.Dec.{eqb}
-use lib.ListN.{length}
-use Rattle.whole.specs.Refusals.{textTooLong}
+use lib.ListN.{length, drop}
+use Rattle.whole.specs.Refusals.{textTooLong, brokenLine, wrongKey}
 use Rattle.terms.specs.Bytes.{Text}
-use Rattle.model.specs.declared.Asked.{Asked}
-use Rattle.model.specs.declared.Asked.the-variants as Asked
-use Rattle.model.specs.declared.Counts.{Counts}
-use Rattle.model.specs.declared.Fed.the-variants as Next
-use Rattle.model.specs.declared.Key.{Key}
-use Rattle.model.specs.declared.Key.the-variants as Key
+use Rattle.model.specs.declared.At.{At}
 use Rattle.model.specs.declared.Verdict.{Verdict}
-use Rattle.model.specs.Vocabulary.Automaton.{State, modelCounted, countsOf, begin, Fed, refused, fed, asFed}
-use Rattle.model.specs.ModelText.{Creation}
-use Rattle.model.specs.Vocabulary.Belonging.{ClassTold, Belongs}
-use Rattle.model.specs.Vocabulary.Creations.{creationsIn}
-use Rattle.model.specs.Vocabulary.Filling.{atEnd, partOf, wholeLines, reached, PartHeld, Held, HeldAfter}
-use Rattle.model.specs.Vocabulary.Folding.{endFolded, linesFolded}
-use Rattle.model.specs.Judge.{refusal, model, givenTo, countsJudged, judged, verdictOf, judge}
-use Rattle.model.specs.Vocabulary.Keys.{asked}
-use Rattle.model.specs.Lines.{lines, longestText}
-use Rattle.model.specs.Model.{Model}
-use Rattle.model.specs.Vocabulary.Table.{Table, Rows}
+use Rattle.model.specs.Bounds.{allLines}
+use Rattle.model.specs.InOrder.{failed, after, _>>=_}
+use Rattle.model.specs.Judge.{Judged, refusal, model, givenTo, countsJudged, endJudged, judged, verdictOf, judge}
+use Rattle.model.specs.Lines.{Line, lines, sound, longestText}
+use Rattle.model.specs.Model.{Class, Model}
+use Rattle.model.specs.ModelText.{Creation, SoFar, readModel}
+use Rattle.model.specs.Vocabulary.Belonging.{CodeTold, ShapeTold, LineTold, ClassTold, Belongs, Shaped}
+use Rattle.model.specs.Vocabulary.Creations.{GivenTold}
+use Rattle.model.specs.Vocabulary.Readings.{readAt, begin, readHead}
+use Rattle.model.specs.Vocabulary.Table.{Table, Rows, rowAt, classRow}
+use Rattle.model.proofs.Chains.{fromClasses, model-chain}
 use Rattle.model.proofs.CountsOfNew.{counts-fit, counts-differ, verdict-refusal}
-use Rattle.model.proofs.Folding.{end-number, end-code, end-whole}
-use Rattle.model.proofs.InOrder.{folded-in-order}
-use Rattle.model.proofs.Keeping.{held-belongs}
-use Rattle.model.proofs.Parts.{Known, known-in}
+use Rattle.model.proofs.Cutting.{line-none}
+use Rattle.model.proofs.Framing.{classes-so}
+use Rattle.model.proofs.SoundEnds.{SoundLine, BrokenLine}
+use Rattle.model.proofs.TableRows.{rows-keep}
 
--- what a line made, by what the code gives of it
-pub refused-fed : (f : Fed) (n : ℕ) → asFed f ≡ Next.Refused n → f ≡ refused n
-refused-fed (refused m) n e = unfold asFed in cc
-refused-fed (fed st) n e = absurd (let z : _≡_ {A = ℕ} 0 1 = unfold asFed in cc in omega arith)
+-- the end of a text whose classes are all read, and the first line left over
+module _ (r : Model × SoFar) (at : ℕ) where
+  end-none : endJudged (after r at []) ≡ countsJudged (r .0) (r .1 .creations)
+  unfolding endJudged
+  end-none = refl
 
-pub next-fed : (f : Fed) (k : Counts) → asFed f ≡ Next.Next k → (st : State) × (f ≡ fed st) × (k ≡ countsOf st)
-next-fed (refused m) k e = absurd (let z : _≡_ {A = ℕ} 0 1 = unfold asFed in cc in omega arith)
-next-fed (fed st) k e = (st, refl, unfold asFed in cc)
+  module _ (l : Line) (ls : List Line) where
+    end-left : sound l ≡ true → endJudged (after r at (l ∷ ls)) ≡ refusal (record { number = wrongKey; line = at })
+    unfolding endJudged
+    end-left e = rw (e, endJudged) refl
 
--- what is known of the state that a line led to
-pub held-after : (s : Text) (t : Table) (f : Fed) (st : State) → f ≡ fed st → HeldAfter s t f → Held s t st (countsOf st)
-unfolding HeldAfter
-held-after s t f st e h = subst (HeldAfter s t) e h
+    end-broken : sound l ≡ false → endJudged (after r at (l ∷ ls)) ≡ refusal (record { number = brokenLine; line = at })
+    unfolding endJudged
+    end-broken e = rw (e, endJudged) refl
+
+-- the same at a place of the text, as the code finds it
+module _ (s : Text) (r : Model × SoFar) (p : At) where
+  abbrev ended : Judged
+  ended = endJudged (after r (p .line) (lines (drop (p .place) s)))
+
+  pub left-none : length s ≤ p .place → ended ≡ countsJudged (r .0) (r .1 .creations)
+  left-none h = ap (λ ls. endJudged (after r (p .line) ls)) (line-none s (p .place) h) ∙ end-none r (p .line)
+
+  pub left-sound : (e : ℕ) → SoundLine s (p .place) e → ended ≡ refusal (record { number = wrongKey; line = p .line })
+  left-sound e l = ap (λ ls. endJudged (after r (p .line) ls)) (l .cut) ∙ end-left r (p .line) _ _ (l .plain)
+
+  pub left-broken : BrokenLine s (p .place) → ended ≡ refusal (record { number = brokenLine; line = p .line })
+  left-broken l = ap (λ ls. endJudged (after r (p .line) ls)) (l .cut) ∙ end-broken r (p .line) (l .first) (l .others) (l .broken)
 
 -- a text that is too long, and any other by its lines
 pub judged-long : (s : Text) → longestText < length s → judged s ≡ refusal (record { number = textTooLong; line = 0 })
 unfolding judged
 judged-long s h = rw (lt-ltb _ _ h, judged) refl
 
-pub judged-short : (s : Text) → length s ≤ longestText → linesFolded 1 begin (lines s) ≡ judged s
+pub judged-short : (s : Text) → length s ≤ longestText → judged s ≡ endJudged (readAt (readHead >>= fromClasses) s begin)
 unfolding judged
-judged-short s h = folded-in-order (lines s) ∙ sym (rw (le-ltb _ _ h, judged) refl)
+judged-short s h = rw (le-ltb _ _ h, judged) (ap endJudged (model-chain 1 (lines s)))
+
+-- a text whose reading is refused
+pub end-failed : (v : Verdict) → endJudged (failed v) ≡ refusal v
+unfolding endJudged
+end-failed v = refl
 
 -- a text that is refused is no model
 no-model : (v : Verdict) (m : Model) → refusal v ≡ model m → ⊥
@@ -66,26 +81,9 @@ unfolding judge
 judge-verdict s = refl
 
 -- what `read` says of a text that is refused
-pub told-refusal : (s : Text) (t : Table) (v : Verdict) → judged s ≡ refusal v
-    → (v ≡ judge s) × ((m : Model) → judged s ≡ model m → Belongs s t m)
-told-refusal s t v e = (sym (judge-verdict s ∙ ap verdictOf e ∙ verdict-refusal v), λ m f. absurd (no-model v m (sym e ∙ f)))
-
--- where nothing is asked for
-pub end-asked : (k : Key) → asked k ≡ Asked.Nothing → k ≡ Key.End
-unfolding asked
-end-asked Key.End e = refl
-end-asked Key.Code e = absurd (let z : _≡_ {A = ℕ} 0 1 = cc in omega arith)
-end-asked Key.Creol e = absurd (let z : _≡_ {A = ℕ} 0 1 = cc in omega arith)
-end-asked Key.Classes e = absurd (let z : _≡_ {A = ℕ} 0 1 = cc in omega arith)
-end-asked Key.Class e = absurd (let z : _≡_ {A = ℕ} 0 1 = cc in omega arith)
-end-asked Key.Attrs e = absurd (let z : _≡_ {A = ℕ} 0 1 = cc in omega arith)
-end-asked Key.Given e = absurd (let z : _≡_ {A = ℕ} 0 1 = cc in omega arith)
-end-asked Key.Run e = absurd (let z : _≡_ {A = ℕ} 0 1 = cc in omega arith)
-end-asked Key.Methods e = absurd (let z : _≡_ {A = ℕ} 0 1 = cc in omega arith)
-end-asked Key.Method e = absurd (let z : _≡_ {A = ℕ} 0 1 = cc in omega arith)
-end-asked Key.Params e = absurd (let z : _≡_ {A = ℕ} 0 1 = cc in omega arith)
-end-asked Key.Locals e = absurd (let z : _≡_ {A = ℕ} 0 1 = cc in omega arith)
-end-asked Key.Lines e = absurd (let z : _≡_ {A = ℕ} 0 1 = cc in omega arith)
+pub told-refusal : (s : Text) (t : Table) (x : List ℕ) (v : Verdict) → judged s ≡ refusal v
+    → (v ≡ judge s) × ((m : Model) → judged s ≡ model m → Belongs s t m × Shaped t x m)
+told-refusal s t x v e = (sym (judge-verdict s ∙ ap verdictOf e ∙ verdict-refusal v), λ m f. absurd (no-model v m (sym e ∙ f)))
 
 -- judging the counts gives the very model
 counts-model : (m : Model) (cs : List Creation) (n : Model) → countsJudged m cs ≡ model n → m ≡ n
@@ -96,32 +94,33 @@ counts-model m (c ∷ cs) n e = go (eqb (c .count) (givenTo m (c .class))) refl 
     go true f rest = rest (sym (counts-fit m c cs f) ∙ e)
     go false f rest = absurd (no-model _ n (sym (counts-differ m c cs f) ∙ e))
 
--- what is known at the end of a whole text
-module _ (s : Text) (t : Table) (st : State) (h : Held s t st (countsOf st)) where
-  module _ (e : asked (st .key) ≡ Asked.Nothing) where
-    at-end : Known atEnd s t st
-    at-end = known-in s t st atEnd (ap partOf (end-asked _ e) ∙ (unfold partOf in refl)) h
+-- and so does the end of the text
+end-model : (r : Model × SoFar) (at : ℕ) (ls : List Line) (n : Model) → endJudged (after r at ls) ≡ model n → r .0 ≡ n
+end-model r at [] n e = counts-model (r .0) (r .1 .creations) n (sym (end-none r at) ∙ e)
+end-model r at (l ∷ ls) n e = go (sound l) refl
+  where
+    go : (b : Bool) → sound l ≡ b → r .0 ≡ n
+    go true f = absurd (no-model _ n (sym (end-left r at l ls f) ∙ e))
+    go false f = absurd (no-model _ n (sym (end-broken r at l ls f) ∙ e))
 
-    pub end-classes : length (st .model .done) ≡ countsOf st .model .classes
-    unfolding PartHeld countsOf modelCounted
-    end-classes = at-end .part
+-- a table that tells all classes of a model belongs to its text, with its shapes, and tells what each class is to be given
+module _ (s : Text) (t : Table) (x : List ℕ) (n : ℕ) (most : n ≤ allLines) (m : Model) (told : Rows (ClassTold t n (LineTold s (length m) t x)) 0 m) where
+  all-belongs : Belongs s t m
+  unfolding Belongs LineTold
+  all-belongs = classes-so t n allLines _ _ most (λ lim i c h. h .0) m told
 
-    pub end-lines : countsOf st .model .total ≤ 512
-    unfolding countsOf modelCounted
-    end-lines = at-end .lines
+  all-shaped : length x ≡ allLines → Shaped t x m
+  unfolding Shaped LineTold
+  all-shaped l = (l, classes-so t n allLines _ _ most (λ lim i c h. h .1) m told)
 
-    pub end-news : st .model .creations ≡ creationsIn t (countsOf st .model .total)
-    unfolding reached
-    end-news = at-end .creations
+  pub all-given : GivenTold t m
+  unfolding ClassTold
+  all-given = rows-keep _ (λ k (c : Class). rowAt t (classRow k) .1 ≡ c .given) 0 m (λ k c _ _ h. h .1) told
 
-    pub end-told : Rows (ClassTold s (st .model .classes) t (wholeLines atEnd (countsOf st))) 0 (st .model .done)
-    end-told = at-end .told
-
-  -- the table belongs to the model
-  pub end-belongs : (at : ℕ) (m : Model) → endFolded at st (asked (st .key)) ≡ model m → Belongs s t m
-  end-belongs at m e = go (asked (st .key)) refl
-    where
-      go : (a : Asked) → asked (st .key) ≡ a → Belongs s t m
-      go Asked.Number f = absurd (no-model _ m (sym (end-number at st f) ∙ e))
-      go Asked.Code f = absurd (no-model _ m (sym (end-code at st f) ∙ e))
-      go Asked.Nothing f = subst (Belongs s t) (counts-model _ _ m (sym (end-whole at st f) ∙ e)) (held-belongs s t st h (end-asked _ f))
+  -- what `read` says of a text whose classes are all read
+  pub told-end : (so : SoFar) (at : ℕ) (ls : List Line) (v : Verdict) → judged s ≡ endJudged (after (m, so) at ls) → v ≡ verdictOf (endJudged (after (m, so) at ls)) → length x ≡ allLines
+      → (v ≡ judge s) × ((n : Model) → judged s ≡ model n → Belongs s t n × Shaped t x n)
+  told-end so at ls v e f l = (
+    f ∙ sym (judge-verdict s ∙ ap verdictOf e),
+    λ n g. subst (λ k. Belongs s t k × Shaped t x k) (end-model (m, so) at ls n (sym e ∙ g)) (all-belongs, all-shaped l),
+  )

@@ -1,13 +1,19 @@
-// What a code line makes of the state and of the table.
-use crate::CodeAt;
-use crate::Counts;
-use crate::Fed;
-use crate::automaton;
-use crate::filling;
+// "`code=`": a statement that may stand where it stands, with its row and its shape.
+use crate::At;
+use crate::CodeFound;
+use crate::Keyed;
+use crate::MethodHead;
+use crate::Read;
+use crate::Row;
+use crate::Stated;
+use crate::Verdict;
+use crate::bounds;
+use crate::key_lines;
+use crate::table;
 use code::BlocksAfter;
 use code::NewFound;
 use code::ReadStatement;
-use code::Statement;
+use code::Shape;
 use code::blocks;
 use code::creating;
 use code::statements;
@@ -17,71 +23,72 @@ use terms::Around;
 use terms::Here;
 use terms::Limits;
 use whole::refusals;
+ghost use mathlib.Core.Bool.{Bool};
 ghost use mathlib.Core.List.{List};
-ghost use mathlib.Core.Option.{Option, some};
+ghost use mathlib.Core.Option.{Option};
 ghost use mathlib.Core.Path.{_≡_};
-ghost use Prim.Native.Nat.{ℕ, _-_, _≤_, _<_};
-ghost use lib.ListN.{length, take, drop};
+ghost use Prim.Native.Nat.{ℕ, _+_, _*_, _≤_, _<_};
+ghost use lib.Dec.{eqb};
+ghost use lib.ListN.{length};
 ghost use Rattle.code.specs.declared.NewFound.the-variants as New;
-ghost use Rattle.code.specs.Blocks.{Block, shapeOf};
-ghost use Rattle.code.specs.Vocabulary.Creating.{newSaid, asNew};
-ghost use Rattle.code.specs.Vocabulary.OpenBlocks.{packedBlocks, shapeSaid};
+ghost use Rattle.code.specs.Blocks.{Block, shapeOf, through};
 ghost use Rattle.code.specs.Statements.{Code};
-ghost use Rattle.model.specs.declared.Key.the-variants as Key;
-ghost use Rattle.model.specs.Vocabulary.Automaton as Automaton;
-ghost use Rattle.model.specs.Vocabulary.Filling as Filling;
+ghost use Rattle.code.specs.Vocabulary.Creating.{asNew};
+ghost use Rattle.code.specs.Vocabulary.OpenBlocks.{packedBlocks, asBlocks};
+ghost use Rattle.model.specs.ModelText as ModelText;
+ghost use Rattle.model.specs.Vocabulary.Creations as Creations;
+ghost use Rattle.model.specs.Vocabulary.Readings as Readings;
+ghost use Rattle.model.specs.Vocabulary.Standing as Standing;
 ghost use Rattle.model.specs.Vocabulary.Table as Table;
 
-// A code line takes its place: in the counts, and in its rows of the table.
-fn line_stated(table: &mut [u32], counts: Counts, new: NewFound, blocks: u32, at: CodeAt) -> Counts
-    requires { ⌜ length (now table) ≡ Table.tableSize ⌝ }
-    requires { ⌜ Filling.Ready counts ⌝ }
-    requires { ⌜ ((k n : ℕ) → new ≡ New.Is k n → (k < 16) × (n < 65536)) ⌝ }
-    ensures { λ r. ⌜ ((c : Code) (bs : List Block) → blocks ≡ packedBlocks bs → Automaton.Follows (λ st. Automaton.stated (at .line) st c bs) counts r) ⌝ }
-    ensures { λ r. ⌜ ((o : Option (ℕ × ℕ)) → new ≡ asNew o → now (table .exit) ≡ Filling.linePut counts r (at .line) (at .place) (at .long) o (now (table .entry))) ⌝ }
+// "Blocks nest at most 8 deep.": the least number of nine open blocks, which has nine digits to the base 4.
+const TOO_DEEP: u32 = 65536;
+
+// "A method's last line is a `return` outside all blocks." Any other leaves at most eight blocks open.
+fn may_stand(last: bool, shape: Shape, blocks: u32) -> bool
+    ensures { λ r. ⌜ ((c : Code) (bs : List Block) → shape ≡ shapeOf c → blocks ≡ packedBlocks bs → r ≡ ModelText.mayStand last c bs) ⌝ }
 {
-    let after = automaton::stated(counts, blocks);
-    filling::put_code(table, counts, at, filling::new_number(new));
-    filling::put_method(table, counts);
-    filling::put_class(table, counts, after);
-    after
+    if last {
+        return blocks::shape_number(Shape::Return) == blocks::shape_number(shape) && blocks == 0;
+    }
+    blocks < TOO_DEEP
 }
 
-// A statement by the blocks that are open: "blocks unmatched or too deep, last line".
-fn block_line(
-    table: &mut [u32],
-    counts: Counts,
-    statement: Statement,
-    arguments: usize,
-    at: CodeAt,
-) -> Fed
-    requires { ⌜ length (now table) ≡ Table.tableSize ⌝ }
-    requires { ⌜ Filling.Ready counts ⌝ }
-    requires { ⌜ ((k n : ℕ) → newSaid statement arguments ≡ some (k, n) → (k < 16) × (n < 65536)) ⌝ }
-    ensures { λ r. ⌜ ((st : Automaton.State) (c : Code) → counts ≡ Automaton.countsOf st → shapeSaid statement ≡ shapeOf c → r ≡ Automaton.asFed (Automaton.blockLine (at .line) st c)) ⌝ }
-    ensures { λ r. ⌜ now (table .exit) ≡ Filling.filledBy r (λ after. Filling.linePut counts after (at .line) (at .place) (at .long) (newSaid statement arguments)) (now (table .entry)) ⌝ }
+// The blocks that are open after a line, if it may stand there: "blocks unmatched or too deep, last line".
+fn standing(last: bool, shape: Shape, blocks: u32) -> BlocksAfter
+    requires { ⌜ blocks < 65536 ⌝ }
+    ensures { λ r. ⌜ ((c : Code) (bs : List Block) → shape ≡ shapeOf c → blocks ≡ packedBlocks bs → r ≡ asBlocks (Standing.stood last c (through (shapeOf c) bs))) ⌝ }
 {
-    let shape = blocks::shape_of(statement);
-    match blocks::through(shape, counts.method.blocks) {
-        BlocksAfter::Unmatched => Fed::Refused(refusals::WRONG_BLOCKS),
-        BlocksAfter::Open(open) => {
-            if automaton::may_stand(counts, shape, open) {
-                let new = creating::new_of(statement, arguments);
-                return Fed::Next(line_stated(table, counts, new, open, at));
+    match blocks::through(shape, blocks) {
+        BlocksAfter::Unmatched => BlocksAfter::Unmatched,
+        BlocksAfter::Open(after) => {
+            if may_stand(last, shape, after) {
+                return BlocksAfter::Open(after);
             }
-            Fed::Refused(refusals::WRONG_BLOCKS)
+            BlocksAfter::Unmatched
         }
     }
 }
 
+// A `new` as one number, of its class and of how many arguments there are; 0 for a line that is none.
+fn new_number(new: NewFound) -> u32
+    requires { ⌜ ((k n : ℕ) → new ≡ New.Is k n → (k < 16) × (n < 65536)) ⌝ }
+    ensures { λ r. ⌜ ((o : Option (ℕ × ℕ)) → new ≡ asNew o → r ≡ Creations.newNumber o) ⌝ }
+{
+    match new {
+        NewFound::Nothing => 0,
+        NewFound::Is(class, count) => 1 + class + bounds::MOST_CLASSES * count as u32,
+    }
+}
+
 // What a code value is read in while the text is judged: its variables' limits. No cell is lent, so where it stands does not matter.
-fn around(counts: Counts) -> Around
-    ensures { λ r. ⌜ r .limits ≡ Filling.limitsCounted counts ⌝ }
+fn around(method: MethodHead) -> Around
+    ensures { λ r. ⌜ r .limits ≡ Standing.limitsOf method ⌝ }
 {
     Around {
         limits: Limits {
-            attrs: counts.class.attrs as usize,
-            locals: counts.method.locals as usize,
+            attrs: method.attrs as usize,
+            locals: method.locals as usize,
         },
         here: Here {
             object: ObjectNumber(0),
@@ -90,35 +97,70 @@ fn around(counts: Counts) -> Around
     }
 }
 
-// "code value outside the grammar, its numbers and variables included"
+// "code value outside the grammar, its numbers and variables included"; then by the blocks that are open.
+fn code_value(value: &[u8], method: MethodHead, last: bool, blocks: u32) -> CodeFound
+    requires { ⌜ length (now value) ≤ 120 ⌝ }
+    requires { ⌜ (0 < method .classes) × (method .classes ≤ 16) ⌝ }
+    requires { ⌜ blocks < 65536 ⌝ }
+    ensures { λ r. ⌜ ((bs : List Block) → blocks ≡ packedBlocks bs → Standing.CodeSaid (now (value .entry)) method last bs r) ⌝ }
+{
+    let no_cells = [0; 0];
+    let read = statements::statement(value, method.classes, &no_cells, around(method));
+    let said = read.read;
+    let ReadStatement::Got(statement) = said else {
+        return CodeFound::Refused(refusals::WRONG_CODE);
+    };
+    let shape = blocks::shape_of(statement);
+    let BlocksAfter::Open(after) = standing(last, shape, blocks) else {
+        return CodeFound::Refused(refusals::WRONG_BLOCKS);
+    };
+    CodeFound::Is(Stated {
+        shape: blocks::shape_number(shape),
+        blocks: after,
+        new: new_number(creating::new_of(statement, read.arguments.count)),
+    })
+}
+
+// A code line by its index in its method, with so many blocks open.
 pub fn code_line(
     text: &[u8],
     table: &mut [u32],
-    counts: Counts,
-    place: usize,
-    end: usize,
-    line: u32,
-) -> Fed
-    requires { ⌜ (place ≤ end) × (end ≤ length (now text)) × (length (now text) ≤ 32768) ⌝ }
-    requires { ⌜ ((st : Automaton.State) × Filling.Tells (now text) counts (now table) st × (st .key ≡ Key.Code)) ⌝ }
-    ensures { λ r. ⌜ ((st : Automaton.State) → Filling.Tells (now (text .entry)) counts (now (table .entry)) st → st .key ≡ Key.Code → Filling.TellsAfter (now (text .entry)) r (now (table .exit)) (Automaton.codeLine line st (take (end - place) (drop place (now (text .entry)))))) ⌝ }
+    shapes: &mut [u8],
+    at: At,
+    method: MethodHead,
+    i: u32,
+    blocks: u32,
+) -> Read
+    requires { ⌜ Table.Sized (now table) (now shapes) ⌝ }
+    requires { ⌜ Readings.Placed (now text) at ⌝ }
+    requires { ⌜ (0 < method .classes) × (method .classes ≤ 16) × (method .first + i < 512) ⌝ }
+    requires { ⌜ blocks < 65536 ⌝ }
+    ensures { λ r. ⌜ ((total : ℕ) (bs : List Block) → blocks ≡ packedBlocks bs → Readings.Tells (now (text .entry)) (Readings.LineLeft (now (text .entry)) (now (table .entry)) (now (shapes .entry)) (now (table .exit)) (now (shapes .exit)) method i total) r (Readings.readAt (ModelText.codeLine (Standing.limitsOf method) (method .classes) (method .count) i (Readings.soFar (now (table .entry)) (method .first + i) total bs)) (now (text .entry)) at)) ⌝ }
 {
-    let value = &text[place..end];
-    let no_cells = [0; 0];
-    let read = statements::statement(value, counts.model.classes, &no_cells, around(counts));
-    let said = read.read;
-    match said {
-        ReadStatement::Bad(_) => Fed::Refused(refusals::WRONG_CODE),
-        ReadStatement::Got(statement) => block_line(
-            table,
-            counts,
-            statement,
-            read.arguments.count,
-            CodeAt {
-                place: place as u32,
-                long: (end - place) as u32,
-                line,
-            },
-        ),
+    let line = at.line;
+    match key_lines::key_line(text, at, b"code=") {
+        Keyed::Failed(verdict) => Read::Failed(verdict),
+        Keyed::Value(place, end) => {
+            match code_value(&text[place..end], method, i + 1 == method.count, blocks) {
+                CodeFound::Refused(number) => Read::Failed(Verdict { number, line }),
+                CodeFound::Is(stated) => {
+                    let row = (method.first + i) as usize;
+                    let long = (end - place) as u32;
+                    table::put(
+                        table,
+                        table::FIRST_CODE + row,
+                        Row(place as u32, long, line, stated.new),
+                    );
+                    shapes[row] = stated.shape;
+                    Read::Got(
+                        stated.blocks,
+                        At {
+                            place: end + 1,
+                            line: line + 1,
+                        },
+                    )
+                }
+            }
+        }
     }
 }

@@ -1,88 +1,74 @@
 // The verdict on every list of bytes, and the table of a text that is accepted.
-use crate::Asked;
-use crate::ClassCounts;
-use crate::Counts;
-use crate::Fed;
-use crate::Key;
+use crate::At;
 use crate::LineFound;
-use crate::MethodCounts;
-use crate::ModelCounts;
+use crate::Read;
 use crate::Verdict;
+use crate::bounds;
+use crate::classes;
 use crate::creations;
-use crate::feeding;
-use crate::keys;
+use crate::key_lines;
 use crate::lines;
 use crate::table;
 use whole::refusals;
 ghost use mathlib.Core.Path.{_≡_};
-ghost use lib.ListN.{length};
-ghost use Rattle.terms.specs.Bytes.{Text};
-ghost use Rattle.model.specs.Vocabulary.Automaton as Automaton;
-ghost use Rattle.model.specs.Vocabulary.Belonging as Belonging;
-ghost use Rattle.model.specs.Vocabulary.Filling as Filling;
-ghost use Rattle.model.specs.Vocabulary.Folding as Folding;
+ghost use Prim.Native.Nat.{_≤_};
+ghost use lib.ListN.{length, drop};
+ghost use Rattle.model.specs.InOrder as InOrder;
 ghost use Rattle.model.specs.Judge as Judge;
-ghost use Rattle.model.specs.Vocabulary.Keys as Keys;
+ghost use Rattle.model.specs.Lines as Lines;
 ghost use Rattle.model.specs.Model.{Model};
+ghost use Rattle.model.specs.Vocabulary.Belonging as Belonging;
+ghost use Rattle.model.specs.Vocabulary.Creations as Creations;
+ghost use Rattle.model.specs.Vocabulary.Readings as Readings;
 ghost use Rattle.model.specs.Vocabulary.Table as Table;
 
 // "At most 32,768 bytes"
 const LONGEST_TEXT: usize = 32768;
 
-// Nothing read yet.
-fn begin() -> Counts
-    ensures { λ r. ⌜ r ≡ Automaton.countsOf Automaton.begin ⌝ }
+// The first two lines: "`creol=1`, `classes=` 1..16".
+fn head(text: &[u8]) -> Read
+    requires { ⌜ length (now text) ≤ Lines.longestText ⌝ }
+    ensures { λ r. ⌜ Readings.Tells (now (text .entry)) (Readings.InRange 1 16) r (Readings.readAt Readings.readHead (now (text .entry)) Readings.begin) ⌝ }
 {
-    Counts {
-        key: Key::Creol,
-        model: ModelCounts {
-            classes: 0,
-            total: 0,
-            read: 0,
-        },
-        class: ClassCounts {
-            attrs: 0,
-            given: 0,
-            run: 0,
-            methods: 0,
-            read: 0,
-        },
-        method: MethodCounts {
-            params: 0,
-            locals: 0,
-            lines: 0,
-            read: 0,
-            blocks: 0,
-        },
-    }
-}
-
-// The end of the text: "a text ended early names the line after its last"; and only where nothing is missing the `new`s are judged.
-fn ended(table: &[u32], counts: Counts, line: u32) -> Verdict
-    requires { ⌜ ((s : Text) × (st : Automaton.State) × Filling.Tells s counts (now table) st) ⌝ }
-    ensures { λ r. ⌜ ((s : Text) (st : Automaton.State) → Filling.Tells s counts (now (table .entry)) st → r ≡ Judge.verdictOf (Folding.endFolded line st (Keys.asked (st .key)))) ⌝ }
-{
-    let key = counts.key;
-    match keys::asked(key) {
-        Asked::Number => Verdict {
-            number: refusals::WRONG_KEY,
-            line,
-        },
-        Asked::Code => Verdict {
-            number: refusals::WRONG_KEY,
-            line,
-        },
-        Asked::Nothing => {
-            creations::counts_judged(table, counts.model.classes, counts.model.total)
+    let at = At { place: 0, line: 1 };
+    match key_lines::number_line(text, at, b"creol=", bounds::EDITION, bounds::EDITION) {
+        Read::Failed(verdict) => Read::Failed(verdict),
+        Read::Got(_, at) => {
+            key_lines::number_line(text, at, b"classes=", 1, bounds::MOST_CLASSES)
         }
     }
 }
 
-// The verdict on a text, with the table that belongs to it where it is accepted.
-pub fn read(text: &[u8], table: &mut [u32]) -> Verdict
+// The end of a text whose classes are all read: "lines left over" are 3, or 2 where the first of them is broken; and only where none is left
+// the `new`s are judged.
+fn ended(text: &[u8], table: &[u32], at: At, classes: u32, total: u32) -> Verdict
     requires { ⌜ length (now table) ≡ Table.tableSize ⌝ }
+    requires { ⌜ Readings.Placed (now text) at ⌝ }
+    requires { ⌜ (classes ≤ 16) × (total ≤ 512) ⌝ }
+    ensures { λ r. ⌜ ((m : Model) → Creations.GivenTold (now (table .entry)) m → length m ≡ classes → r ≡ Judge.verdictOf (Judge.endJudged (InOrder.after (m, Readings.between (now (table .entry)) total) (at .line) (Lines.lines (drop (at .place) (now (text .entry))))))) ⌝ }
+{
+    let place = at.place;
+    let line = at.line;
+    if place == text.len() {
+        return creations::counts_judged(table, classes, total);
+    }
+    match lines::sound_line(text, place) {
+        LineFound::Broken => Verdict {
+            number: refusals::BROKEN_LINE,
+            line,
+        },
+        LineFound::Sound(_) => Verdict {
+            number: refusals::WRONG_KEY,
+            line,
+        },
+    }
+}
+
+// The verdict on a text, with the table and the shapes that belong to it where it is accepted.
+pub fn read(text: &[u8], table: &mut [u32], shapes: &mut [u8]) -> Verdict
+    requires { ⌜ Table.Sized (now table) (now shapes) ⌝ }
     ensures { λ r. ⌜ r ≡ Judge.judge (now (text .entry)) ⌝ }
-    ensures { λ _. ⌜ ((m : Model) → Judge.judged (now (text .entry)) ≡ Judge.model m → Belonging.Belongs (now (text .entry)) (now (table .exit)) m) ⌝ }
+    ensures { λ _. ⌜ ((m : Model) → Judge.judged (now (text .entry)) ≡ Judge.model m → Belonging.Belongs (now (text .entry)) (now (table .exit)) m × Belonging.Shaped (now (table .exit)) (now (shapes .exit)) m) ⌝ }
 {
     if text.len() > LONGEST_TEXT {
         return Verdict {
@@ -90,24 +76,13 @@ pub fn read(text: &[u8], table: &mut [u32]) -> Verdict
             line: 0,
         };
     }
-    let mut counts = begin();
-    let mut place = 0;
-    let mut line = 1;
-    while place < text.len() {
-        let LineFound::Sound(end) = lines::sound_line(text, place) else {
-            return Verdict {
-                number: refusals::BROKEN_LINE,
-                line,
-            };
-        };
-        match feeding::line(text, table, counts, place, end, line) {
-            Fed::Refused(number) => return Verdict { number, line },
-            Fed::Next(after) => counts = after,
-        }
-        place = end + 1;
-        line += 1;
+    match head(text) {
+        Read::Failed(verdict) => verdict,
+        Read::Got(count, at) => match classes::all_classes(text, table, shapes, at, count) {
+            Read::Failed(verdict) => verdict,
+            Read::Got(total, at) => ended(text, table, at, count, total),
+        },
     }
-    ended(table, counts, line)
 }
 
 // The verdict on a text: number and line.
@@ -115,5 +90,6 @@ pub fn judge(text: &[u8]) -> Verdict
     ensures { λ r. ⌜ r ≡ Judge.judge (now (text .entry)) ⌝ }
 {
     let mut rows = [0; table::SIZE];
-    read(text, &mut rows)
+    let mut shapes = [0; table::LINES];
+    read(text, &mut rows, &mut shapes)
 }

@@ -1,15 +1,14 @@
 // The verdict on a model text, and the table that later parts find its lines by.
 
-pub mod automaton;
+pub mod bounds;
+pub mod classes;
 pub mod code_lines;
 pub mod creations;
-pub mod feeding;
-pub mod filling;
 pub mod judging;
-pub mod keys;
+pub mod key_lines;
 pub mod lines;
+pub mod methods;
 pub mod numbers;
-pub mod ranges;
 pub mod table;
 
 // A number given back, with the line of the text that it names: 0 where it names none.
@@ -18,67 +17,23 @@ pub struct Verdict {
     pub line: u32,
 }
 
-// "Every line is key=value, in this order": the key that comes next, or the end of the text.
-pub enum Key {
-    Creol,
-    Classes,
-    Class,
-    Attrs,
-    Given,
-    Run,
-    Methods,
-    Method,
-    Params,
-    Locals,
-    Lines,
-    Code,
-    End,
+// Where reading stands: the place in the text where a line begins, and its number, "counted from 1".
+pub struct At {
+    pub place: usize,
+    pub line: u32,
 }
 
-// What stands behind a key: a number, a code value, or nothing where the text has ended.
-pub enum Asked {
-    Number,
-    Code,
-    Nothing,
+// What reading lines gives: the verdict that refuses one of them, or a number and where the next line begins. The number is the line's, the
+// open blocks after it, or how many code lines were read in all.
+pub enum Read {
+    Failed(Verdict),
+    Got(u32, At),
 }
 
-// What was counted of the model: its classes, all `lines=` together, and the classes that are whole.
-pub struct ModelCounts {
-    pub classes: u32,
-    pub total: u32,
-    pub read: u32,
-}
-
-// What was counted of the class being read, and its methods that are whole.
-pub struct ClassCounts {
-    pub attrs: u32,
-    pub given: u32,
-    pub run: u32,
-    pub methods: u32,
-    pub read: u32,
-}
-
-// What was counted of the method being read, its code lines so far, and its open blocks as one number.
-pub struct MethodCounts {
-    pub params: u32,
-    pub locals: u32,
-    pub lines: u32,
-    pub read: u32,
-    pub blocks: u32,
-}
-
-// The automaton's state by value: the key that comes next, and the counts.
-pub struct Counts {
-    pub key: Key,
-    pub model: ModelCounts,
-    pub class: ClassCounts,
-    pub method: MethodCounts,
-}
-
-// What a line makes of a state: the number of its refusal, or the next state.
-pub enum Fed {
-    Refused(u32),
-    Next(Counts),
+// A line whose key is the expected one: where its value begins and ends; or the verdict that refuses it.
+pub enum Keyed {
+    Failed(Verdict),
+    Value(usize, usize),
 }
 
 // The end of a sound line, which is its LF's place; or the line is too long, has a byte outside, or has no LF.
@@ -93,11 +48,35 @@ pub enum NumberLine {
     Bad,
 }
 
-// Where a code value stands: its place in the text, its length, and its line.
-pub struct CodeAt {
-    pub place: u32,
-    pub long: u32,
-    pub line: u32,
+// The class being read: how many classes there are, its index, its attributes, and whether it runs.
+pub struct ClassHead {
+    pub classes: u32,
+    pub index: u32,
+    pub attrs: u32,
+    pub run: u32,
+}
+
+// The method being read: how many classes there are, what its variables are below, how many code lines it has, and the number of the first
+// of them among those of all methods.
+pub struct MethodHead {
+    pub classes: u32,
+    pub attrs: u32,
+    pub locals: u32,
+    pub count: u32,
+    pub first: u32,
+}
+
+// What a code value is: its shape, the open blocks after it, and its `new` as one number.
+pub struct Stated {
+    pub shape: u8,
+    pub blocks: u32,
+    pub new: u32,
+}
+
+// A code value, or the number that refuses it.
+pub enum CodeFound {
+    Refused(u32),
+    Is(Stated),
 }
 
 // A row of the table: four numbers.

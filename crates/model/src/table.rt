@@ -1,5 +1,6 @@
-// The table of a text: rows of four numbers, by which later parts find its lines.
+// The table of a text: rows of four numbers, by which later parts find its lines; and the shape of each code line.
 use crate::Row;
+use crate::bounds;
 ghost use mathlib.Core.Path.{_≡_};
 ghost use Prim.Native.Nat.{_<_};
 ghost use lib.ListN.{length};
@@ -7,6 +8,16 @@ ghost use Rattle.model.specs.Vocabulary.Table as Table;
 
 // How many numbers the rows have together.
 pub const SIZE: usize = 2624;
+
+// How many code lines there may be, each with a shape.
+pub const LINES: usize = 512;
+
+// Where the rows of methods and of code lines begin: a row for each class stands before them, and one for each method of each class.
+const FIRST_METHOD: usize = bounds::MOST_CLASSES as usize;
+
+const METHODS: usize = bounds::MOST_METHODS as usize;
+
+pub const FIRST_CODE: usize = FIRST_METHOD + METHODS * FIRST_METHOD;
 
 // The four numbers of a row.
 pub fn row(table: &[u32], r: usize) -> Row
@@ -29,4 +40,18 @@ pub fn put(table: &mut [u32], r: usize, row: Row)
     table[at + 1] = row.1;
     table[at + 2] = row.2;
     table[at + 3] = row.3;
+}
+
+// The same in the place of a method's row.
+pub fn put_method(table: &mut [u32], class: u32, method: u32, row: Row)
+    requires { ⌜ length (now table) ≡ Table.tableSize ⌝ }
+    requires { ⌜ class < 16 ⌝ }
+    requires { ⌜ method < 8 ⌝ }
+    ensures { λ _. ⌜ now (table .exit) ≡ Table.put (now (table .entry)) (Table.methodRow class method) row ⌝ }
+{
+    put(
+        table,
+        FIRST_METHOD + METHODS * class as usize + method as usize,
+        row,
+    );
 }

@@ -1,7 +1,9 @@
 -- Vocabulary of the code: the table of a text, by which later parts find its lines: a list of numbers, in rows of four. Assumes nothing.
-use Prim.Native.Nat.{ℕ, suc, _+_, _*_}
+use Prim.Native.Nat.{ℕ, suc, _+_, _*_, _<_}
 use mathlib.Core.List.{List, [], _∷_}
-use lib.ListN.{getD, set}
+use mathlib.Core.Path.{_≡_}
+use lib.ListN.{length, getD, set}
+use Rattle.model.specs.Bounds.{allLines}
 use Rattle.model.specs.declared.Row.{Row}
 
 abbrev pub Table : Type 0
@@ -29,6 +31,10 @@ rows = 656
 abbrev pub tableSize : ℕ
 tableSize = 2624
 
+-- a table and the shapes of the code lines, each as long as it is to be
+abbrev pub Sized : Table → List ℕ → Type 0
+Sized t x = (length t ≡ tableSize) × (length x ≡ allLines)
+
 -- the four numbers of a row; a number that is not there reads as 0
 unfoldable pub rowAt : Table → ℕ → Row
 rowAt t r = record { 0 = getD t (r * width) 0; 1 = getD t (r * width + 1) 0; 2 = getD t (r * width + 2) 0; 3 = getD t (r * width + 3) 0 }
@@ -41,3 +47,10 @@ put t r x =
 unfoldable pub Rows : {A : Type 0} → (ℕ → A → Type 0) → ℕ → List A → Type 0
 Rows P n [] = Unit {0}
 Rows P n (x ∷ xs) = P n x × Rows P (suc n) xs
+
+-- two tables, each with its shapes, have the same rows: so many classes', so many methods' of all classes, so many code lines'
+pub record Same (t : Table) (x : List ℕ) (u : Table) (y : List ℕ) (classes methods lines : ℕ) : Type 0 where
+  pub class : (k : ℕ) → k < classes → rowAt u (classRow k) ≡ rowAt t (classRow k)
+  pub method : (k j : ℕ) → 8 * k + j < methods → rowAt u (methodRow k j) ≡ rowAt t (methodRow k j)
+  pub line : (i : ℕ) → i < lines → rowAt u (codeRow i) ≡ rowAt t (codeRow i)
+  pub shape : (i : ℕ) → i < lines → getD y i 0 ≡ getD x i 0

@@ -1,89 +1,164 @@
 -- `model::code_lines::code_line` meets its contract. Assumes nothing.
 use Prim.Native.Nat.{_+_, _-_, _≤_, _<_}
-use Rattle.model.proofs.CodeFed.{new-fits, refused-tells, code-tells}
-use Rattle.model.proofs.LinesHeld.{held-ready, held-classes}
-use Rattle.model.specs.Vocabulary.Filling.{Ready}
-use borrow.Author.Needs.{needs}
+use mathlib.Core.Path.{_≡_, refl}
+use native.Mathlib.Omega.{arith}
 use denote.Ref.{now}
 use lib.ListN.{length, drop, length-take, length-drop}
-use mathlib.Core.Path.{sym, subst}
-use native.Mathlib.Omega.{arith}
+use Rattle.model.specs.InOrder.{right}
+use Rattle.model.specs.ModelText.{codeLine}
+use Rattle.model.specs.Vocabulary.Readings.{Tells, allPositive, soFar}
+use Rattle.model.proofs.CodeRows.{taken-wrong, line-taken, line-left}
+use Rattle.model.proofs.CodeValues.{said-refused, said-is}
+use Rattle.model.proofs.KeyLines.{value-failed, value-refused, value-read, value-inside, value-placed}
+use borrow.Author.Needs.{needs}
 use Rattle.model.proofs.code_lines.code_line.Statement.{statement}
 use Rattle.model.proofs.code_lines.code_line.Tie as tie
 
-sub-value : tie.Need-sub-value
-sub-value c = search needs
+-- where the value stands
+inside : (c : tie.After-place) → (let a = c .before .before .before .before .before .before .before .args in let v = c .place .given .0 in
+    (v .0 ≤ v .1 .0) × (v .1 .0 < length (now (a .text))) × (v .1 .0 - v .0 ≤ 120))
+inside c = value-inside _ _ _ (λ _ v. right v) _ (c .before .before .key-line .ensures) _ _ (c .place .given .1)
 
-part-value-start : tie.Need-part-value-start
-part-value-start c = search needs
+slice-aggregate-key-line : tie.Need-slice-aggregate-key-line
+slice-aggregate-key-line c = search needs
 
-part-value-end : tie.Need-part-value-end
-part-value-end c = search needs
+key-line-requires : tie.Need-key-line-requires
+unfolding allPositive
+key-line-requires c κs = (c .before .before .before .before .pre .1 .0, refl)
 
-slice-aggregate-statement : tie.Need-slice-aggregate-statement
-slice-aggregate-statement c = search needs
+enum-known-verdict : tie.Need-enum-known-verdict
+enum-known-verdict c = search needs
 
-around-requires : tie.Need-around-requires
-around-requires c κs = search needs
+enum-known-place : tie.Need-enum-known-place
+enum-known-place c = search needs
 
-statement-requires : tie.Need-statement-requires
-statement-requires c κs = let p = c .before .before .before .before .before .pre .1 in subst (λ k. 0 < k .model .classes) (sym (p .1 .0)) (held-classes _ _ (p .0) (p .1 .1) (p .2))
+sub-code-value : tie.Need-sub-code-value
+sub-code-value c = let h = inside (c .before) in search needs
 
-enum-told : tie.Need-enum-told
-enum-told c = search needs
+part-code-value-start : tie.Need-part-code-value-start
+part-code-value-start c = let h = inside (c .before) in search needs
 
-enum-known-said : tie.Need-enum-known-said
-enum-known-said c = search needs
+part-code-value-end : tie.Need-part-code-value-end
+part-code-value-end c = let h = inside (c .before) in search needs
 
-cast-t21 : tie.Need-cast-t21
-cast-t21 c = search needs
+add-code-value : tie.Need-add-code-value
+add-code-value c = search needs
 
-sub-t22 : tie.Need-sub-t22
-sub-t22 c = search needs
+code-value-requires : tie.Need-code-value-requires
+code-value-requires c κs =
+    let k = c .before .before .before in
+    let b = k .before .before .before .before .before .before .before in
+    let a = b .args in
+    let v = k .place .given .0 in
+    let h = inside k in
+    (omega (arith, length-take (v .1 .0 - v .0) (drop (v .0) (now (a .text))), length-drop (v .0) (now (a .text))), (search needs, search needs))
 
-cast-t23 : tie.Need-cast-t23
-cast-t23 c = search needs
+enum-known-number : tie.Need-enum-known-number
+enum-known-number c = search needs
 
-block-line-requires : tie.Need-block-line-requires
-block-line-requires c κs =
-    let a = c .before .before .before .before .before .before .before .before .before .before .args in
-    let p = c .before .before .before .before .before .before .before .before .before .before .pre .1 in (
-      search needs,
-      (
-        subst Ready (sym (p .1 .0)) (held-ready _ _ (p .0) (p .1 .1) (p .2)),
-        new-fits _ _ _ (p .0) (p .1 .0) (c .before .before .before .before .before .around .ensures) _ _ (c .before .before .before .before .statement .ensures) _ (c .before .before .said .given .1) (omega (arith, length-take (a .end - a .place) (drop (a .place) (now (a .text))), length-drop (a .place) (now (a .text)))) (held-classes _ _ (p .0) (p .1 .1) (p .2)) (p .1 .1 .classes),
-      ),
-    )
+enum-known-stated : tie.Need-enum-known-stated
+enum-known-stated c = search needs
+
+add-row : tie.Need-add-row
+add-row c = search needs
+
+cast-row : tie.Need-cast-row
+cast-row c = search needs
+
+sub-long : tie.Need-sub-long
+sub-long c = let h = inside (c .before .before .before .before .before .before .before .before) in search needs
+
+cast-long : tie.Need-cast-long
+cast-long c = let h = inside (c .before .before .before .before .before .before .before .before) in search needs
+
+add-put : tie.Need-add-put
+add-put c = search needs
+
+cast-t30 : tie.Need-cast-t30
+cast-t30 c = let h = inside (c .before .before .before .before .before .before .before .before .before) in search needs
+
+put-requires : tie.Need-put-requires
+put-requires c κs = search needs
+
+slice-write-shapes : tie.Need-slice-write-shapes
+slice-write-shapes c =
+    let b = c .before .before .before .before .before .before .before .before .before .before .before .before .before .before .before .before .before .before .before in
+    let l : length (now (b .args .shapes)) ≡ 512 = b .pre .0 .1 in
+    let r : b .args .method .first + b .args .i < 512 = b .pre .1 .1 .0 .2 in
+    search needs
+
+add-t31 : tie.Need-add-t31
+add-t31 c = let h = inside (c .before .before .before .before .before .before .before .before .before .before .before .before) in search needs
+
+add-t30 : tie.Need-add-t30
+add-t30 c =
+    let h = inside (c .before .before .before .before .before .before .before .before .before .before .before .before) in
+    let q = c .before .before .before .before .before .before .before .before .before .before .before .before .before .before .before .before .before .before .before .pre .1 .0 in
+    search needs
 
 returns : tie.Need-returns
-returns c = λ st told key. refused-tells _ _ _ st (told .0) (c .before .before .before .around .ensures) _ _ (c .before .before .statement .ensures) _ _ _ _ (c .enum-told .given .1)
+unfolding Tells codeLine
+returns c = λ total bs e. value-failed _ _ _ _ _ (c .before .before .before .key-line .ensures) _ (c .before .verdict .given .1)
+
+returns-2 : tie.Need-returns-2
+unfolding Tells codeLine
+returns-2 c = λ total bs e.
+    let k = c .before .before .before .before .before .before .before in
+    let a = k .before .before .before .before .before .before .before .args in
+    value-refused _ _ _ _ _ (k .before .before .key-line .ensures) _ _ (k .place .given .1) _
+    (taken-wrong (a .method) (a .i) (soFar (now (a .table)) (a .method .first + a .i) total bs) (a .at .line) _ _
+    (said-refused _ _ _ bs _ (c .before .before .before .code-value .ensures bs e) _ (c .before .number .given .1)))
 
 same-length : tie.Need-same-length
 same-length c = search needs
 
-returns-2 : tie.Need-returns-2
-returns-2 c = λ st told key.
-    let l = c .before .before in
-    let a = c .before .before .before .before .before .before .before .before .before .before .before .before .before .args in
-    let w : a .place + (a .end - a .place) ≤ length (now (a .text)) = omega (arith, c .before .before .before .before .before .before .before .before .before .before .before .before .before .pre .0) in
-    code-tells _ _ _ st (told .0) (c .before .before .before .before .before .before .before .before .around .ensures) (now (a .text)) (a .place) (a .end - a .place) w _ (c .before .before .before .before .before .before .before .statement .ensures) _ _ (told .1) key _ (c .before .before .before .before .before .said .given .1) _ _ (λ code w. l .block-line .ensures .0 st code (told .0) w) (l .block-line .ensures .1)
+same-length-2 : tie.Need-same-length-2
+same-length-2 c = search needs
+
+returns-3 : tie.Need-returns-3
+unfolding Tells codeLine
+returns-3 c = λ total bs e.
+    let k = c .before .before .before .before .before .before .before .before .before .before .before .before in
+    let b = k .before .before .before .before .before .before .before in
+    let a = b .args in
+    let key = k .before .before .key-line .ensures in
+    let h = inside k in
+    let is = said-is _ _ _ bs _ (c .before .before .before .before .before .before .before .before .code-value .ensures bs e) _ (c .before .before .before .before .before .before .stated .given .1) in
+    let room : a .method .first + a .i < 512 = omega arith in
+    let to : k .place .given .0 .1 .0 ≤ length (now (a .text)) = omega arith in (
+      _,
+      value-read _ _ _ _ _ key _ _ (k .place .given .1) _ (line-taken (now (a .text)) (now (a .table)) (now (a .shapes)) (b .pre .0) (a .method) (a .i) total (a .at .line) _ _ bs _ room (h .0) to is),
+      value-placed _ _ _ (λ _ v. right v) _ key _ _ (k .place .given .1) (b .pre .1 .0),
+      line-left (now (a .text)) (now (a .table)) (now (a .shapes)) (b .pre .0) (a .method) (a .i) total (a .at .line) _ _ bs _ room (h .0) to is _ (c .before .before .put .ensures),
+    )
 
 pub code-line-spec : {M : Type 1} → statement M
 code-line-spec =
     tie.close
     (tie.spec
-    sub-value
-    part-value-start
-    part-value-end
-    slice-aggregate-statement
-    around-requires
-    statement-requires
-    enum-told
-    enum-known-said
-    cast-t21
-    sub-t22
-    cast-t23
-    block-line-requires
+    slice-aggregate-key-line
+    key-line-requires
+    enum-known-verdict
+    enum-known-place
+    sub-code-value
+    part-code-value-start
+    part-code-value-end
+    add-code-value
+    code-value-requires
+    enum-known-number
+    enum-known-stated
+    add-row
+    cast-row
+    sub-long
+    cast-long
+    add-put
+    cast-t30
+    put-requires
+    slice-write-shapes
+    add-t31
+    add-t30
     returns
+    returns-2
     same-length
-    returns-2)
+    same-length-2
+    returns-3)

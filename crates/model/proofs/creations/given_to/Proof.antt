@@ -11,10 +11,10 @@ row-requires : tie.Need-row-requires
 row-requires c κs = search needs
 
 returns : tie.Need-returns
-returns c s n filled m told l = ap (λ (x : Row). x .1) (c .row .ensures) ∙ sym (given-told s n _ filled m _ told (omega arith))
+returns c m told l = ap (λ (x : Row). x .1) (c .row .ensures) ∙ sym (given-told _ m _ told (omega arith))
 
 returns-2 : tie.Need-returns-2
-returns-2 c s n filled m told l = sym (given-none m _ (omega arith))
+returns-2 c m told l = sym (given-none m _ (omega arith))
 
 pub given-to-spec : {M : Type 1} → statement M
 given-to-spec = tie.close (tie.spec row-requires returns returns-2)

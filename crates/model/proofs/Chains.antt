@@ -1,0 +1,82 @@
+-- The number lines of a class and of a method, one after another: what is left to read after each. Assumes nothing.
+use Prim.Native.Nat.{ℕ, _-_, min}
+use mathlib.Core.Bool.{_&&_}
+use mathlib.Core.List.{List, []}
+use mathlib.Core.Path.{_≡_, refl}
+use lib.Dec.{eqb}
+use Rattle.layout.specs.Layout.{mostAttributes, mostLocals}
+use Rattle.terms.specs.Bytes.{bytes}
+use Rattle.model.specs.Bounds.{edition, mostClasses, mostMethods, mostParams, mostLines, allLines}
+use Rattle.model.specs.InOrder.{LinesRead, failed, after, Reader, done, _>>=_, numberLine, each}
+use Rattle.model.specs.Lines.{Line}
+use Rattle.model.specs.Model.{Method, Class, Model}
+use Rattle.model.specs.ModelText.{SoFar, linesBegun, zeroIf, codeLine, readMethod, readClass, readModel}
+use Rattle.model.specs.Vocabulary.Readings.{readHead}
+
+-- of a method, from its code back to its `params=`
+module _ (classes attrs : ℕ) (so : SoFar) where
+  abbrev pub fromCode : ℕ → ℕ → ℕ → Reader (Method × SoFar)
+  fromCode params locals count =
+      each count 0 (linesBegun so count) (codeLine (record { attrs = attrs; locals = locals }) classes count)
+      >>= (λ code. done (record { params = params; locals = locals; code = code .0 }, code .1))
+
+  abbrev pub fromLines : ℕ → ℕ → Reader (Method × SoFar)
+  fromLines params locals = numberLine (bytes "lines=") 1 (min mostLines (allLines - so .total)) >>= fromCode params locals
+
+  abbrev pub fromLocals : ℕ → Reader (Method × SoFar)
+  fromLocals params = numberLine (bytes "locals=") params mostLocals >>= fromLines params
+
+  module _ (run j : ℕ) where
+    abbrev pub fromParams : ℕ → Reader (Method × SoFar)
+    fromParams index = numberLine (bytes "params=") 0 (zeroIf (eqb run 1 && eqb j 0) mostParams) >>= fromLocals
+
+    pub method-chain : (at : ℕ) (ls : List Line) → readMethod classes attrs run j so at ls ≡ (numberLine (bytes "method=") j j >>= fromParams) at ls
+    unfolding readMethod
+    method-chain at ls = refl
+
+-- of a class, from its methods back to its `attrs=`
+module _ (classes k : ℕ) (so : SoFar) where
+  abbrev pub fromMethods : ℕ → ℕ → ℕ → ℕ → Reader (Class × SoFar)
+  fromMethods attrs given run count =
+      each count 0 so (readMethod classes attrs run)
+      >>= (λ methods. done (record { attrs = attrs; given = given; run = run; methods = methods .0 }, methods .1))
+
+  abbrev pub fromCount : ℕ → ℕ → ℕ → Reader (Class × SoFar)
+  fromCount attrs given run = numberLine (bytes "methods=") run mostMethods >>= fromMethods attrs given run
+
+  abbrev pub fromRun : ℕ → ℕ → Reader (Class × SoFar)
+  fromRun attrs given = numberLine (bytes "run=") (1 - k) 1 >>= fromCount attrs given
+
+  abbrev pub fromGiven : ℕ → Reader (Class × SoFar)
+  fromGiven attrs = numberLine (bytes "given=") 0 (zeroIf (eqb k 0) attrs) >>= fromRun attrs
+
+  abbrev pub fromAttrs : ℕ → Reader (Class × SoFar)
+  fromAttrs index = numberLine (bytes "attrs=") 0 mostAttributes >>= fromGiven
+
+  pub class-chain : (at : ℕ) (ls : List Line) → readClass classes k so at ls ≡ (numberLine (bytes "class=") k k >>= fromAttrs) at ls
+  unfolding readClass
+  class-chain at ls = refl
+
+-- of the whole text: the first two lines, and then the classes
+pub head-chain : (at : ℕ) (ls : List Line) → readHead at ls ≡ (numberLine (bytes "creol=") edition edition >>= (λ _. numberLine (bytes "classes=") 1 mostClasses)) at ls
+unfolding readHead
+head-chain at ls = refl
+
+abbrev pub fromClasses : ℕ → Reader (Model × SoFar)
+fromClasses count = each count 0 (record { total = 0; creations = []; blocks = [] }) (readClass count)
+
+pub model-chain : (at : ℕ) (ls : List Line) → readModel at ls ≡ (readHead >>= fromClasses) at ls
+unfolding readModel readHead _>>=_
+model-chain at ls = go (numberLine (bytes "creol=") edition edition at ls)
+  where
+    classes : Reader ℕ
+    classes = numberLine (bytes "classes=") 1 mostClasses
+
+    go : (x : LinesRead ℕ)
+        → (let all : LinesRead (Model × SoFar) =
+        elim x [ failed v ↦ failed v | after a n l ↦ elim (classes n l) [ failed v ↦ failed v | after count m k ↦ fromClasses count m k ] ] in
+        let two : LinesRead ℕ = elim x [ failed v ↦ failed v | after a n l ↦ classes n l ] in
+        let then : LinesRead (Model × SoFar) = elim two [ failed v ↦ failed v | after count m k ↦ fromClasses count m k ] in
+        all ≡ then)
+    go (failed v) = refl
+    go (after a n l) = refl

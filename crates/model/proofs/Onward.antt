@@ -1,0 +1,106 @@
+-- Readings that follow one another, by what the code gives of each: a chain of them, and so many of a thing. Assumes nothing.
+use Prim.Native.Nat.{ℕ, zero, suc, _+_, _-_, _≤_, _<_}
+use mathlib.Core.List.{List, [], _∷_, _++_, append-nil, append-assoc}
+use mathlib.Core.Path.{_≡_, refl, sym, ap, subst, _∙_}
+use native.Mathlib.Omega.{arith}
+use native.Mathlib.Nat.{sub-zero}
+use lib.ListN.{drop}
+use Rattle.terms.specs.Bytes.{Text}
+use Rattle.model.specs.declared.At.{At}
+use Rattle.model.specs.declared.Read.{Read}
+use Rattle.model.specs.declared.Read.the-variants as Read
+use Rattle.model.specs.declared.Verdict.{Verdict}
+use Rattle.model.specs.InOrder.{LinesRead, failed, after, Reader, done, _>>=_, each}
+use Rattle.model.specs.Lines.{Line, lines}
+use Rattle.model.specs.Vocabulary.Readings.{Placed, readAt, Tells, InRange}
+
+-- one reading after another: the first is refused, or the second goes on from it
+module _ {A B : Type 0} (r : Reader A) (k : A → Reader B) (at : ℕ) (ls : List Line) where
+  pub then-failed : (v : Verdict) → r at ls ≡ failed v → (r >>= k) at ls ≡ failed v
+  unfolding _>>=_
+  then-failed v e = ap (λ (x : LinesRead A). (let y : LinesRead B = elim x [ failed w ↦ failed w | after a n l ↦ k a n l ] in y)) e
+
+  pub then-after : (a : A) (next : ℕ) (rest : List Line) → r at ls ≡ after a next rest → (r >>= k) at ls ≡ k a next rest
+  unfolding _>>=_
+  then-after a next rest e = ap (λ (x : LinesRead A). (let y : LinesRead B = elim x [ failed w ↦ failed w | after a n l ↦ k a n l ] in y)) e
+
+-- what the code gives, by its case
+module _ {A : Type 0} (s : Text) (P : A → ℕ → Type 0) (r : Read) (x : LinesRead A) (t : Tells s P r x) where
+  pub told-failed : (v : Verdict) → r ≡ Read.Failed v → x ≡ failed v
+  unfolding Tells
+  told-failed v e = subst (λ q. Tells s P q x) e t
+
+  pub told-got : (n : ℕ) (p : At) → r ≡ Read.Got n p → (a : A) × (x ≡ after a (p .line) (lines (drop (p .place) s))) × Placed s p × P a n
+  unfolding Tells
+  told-got n p e = subst (λ q. Tells s P q x) e t
+
+-- a refusal is passed on
+pub tells-failed : {B : Type 0} (s : Text) (Q : B → ℕ → Type 0) (r : Read) (y : LinesRead B) (v : Verdict) → r ≡ Read.Failed v → y ≡ failed v → Tells s Q r y
+unfolding Tells
+tells-failed s Q r y v e f = subst (λ q. Tells s Q q y) (sym e) f
+
+-- a number within a chain
+module _ {B : Type 0} (s : Text) (low high : ℕ) (rd : Reader ℕ) (k : ℕ → Reader B) (y : LinesRead B) (p : At) (e : y ≡ readAt (rd >>= k) s p)
+    (r : Read) (t : Tells s (InRange low high) r (readAt rd s p)) where
+  -- that is refused
+  pub number-stops : (Q : B → ℕ → Type 0) (v : Verdict) → r ≡ Read.Failed v → Tells s Q r y
+  number-stops Q v f = tells-failed s Q r y v f (e ∙ then-failed _ k _ _ v (told-failed s _ r _ t v f))
+
+  -- that is passed: what is left to read, and from where
+  pub number-passed : (n : ℕ) (q : At) → r ≡ Read.Got n q → (y ≡ readAt (k n) s q) × Placed s q × (low ≤ n) × (n ≤ high)
+  number-passed n q f =
+      let g = told-got s _ r _ t n q f in
+      (e ∙ then-after _ k _ _ _ _ _ (g .1) ∙ ap (λ a. readAt (k a) s q) (g .3 .0), g .2, g .3 .1, g .3 .2)
+
+-- the last reading of a chain, from which something is made
+module _ {A B : Type 0} (s : Text) (P : A → ℕ → Type 0) (Q : B → ℕ → Type 0) (rd : Reader A) (f : A → B) (y : LinesRead B) (p : At)
+    (e : y ≡ readAt (rd >>= (λ a. done (f a))) s p) where
+  pub tells-made : (r : Read) → Tells s P r (readAt rd s p) → ((a : A) (n : ℕ) → P a n → Q (f a) n) → Tells s Q r y
+  unfolding Tells done
+  tells-made (Read.Failed v) t h = e ∙ then-failed rd _ _ _ v t
+  tells-made (Read.Got n q) t h = (f (t .0), e ∙ then-after rd _ _ _ _ _ _ (t .1), t .2, h (t .0) n (t .3))
+
+-- things read before others
+unfoldable pub onto : {A S : Type 0} → List A → LinesRead (List A × S) → LinesRead (List A × S)
+onto xs (failed v) = failed v
+onto xs (after r at ls) = after (xs ++ r .0, r .1) at ls
+
+onto-none : {A S : Type 0} (x : LinesRead (List A × S)) → onto [] x ≡ x
+onto-none (failed v) = unfold onto in refl
+onto-none (after r at ls) = unfold onto in refl
+
+-- one more of them
+onto-more : {A S : Type 0} (xs : List A) (x : A) (later : Reader (List A × S)) (at : ℕ) (ls : List Line)
+    → onto xs ((later >>= (λ r. done (x ∷ r .0, r .1))) at ls) ≡ onto (xs ++ (x ∷ [])) (later at ls)
+unfolding _>>=_ onto done
+onto-more {A} {S} xs x later at ls = go (later at ls)
+  where
+    go : (y : LinesRead (List A × S)) → onto xs (elim y [ failed v ↦ failed v | after r n l ↦ after (x ∷ r .0, r .1) n l ]) ≡ onto (xs ++ (x ∷ [])) y
+    go (failed v) = refl
+    go (after r n l) = rw append-assoc
+
+-- so many of a thing, each by its index
+module _ {A S : Type 0} (one : ℕ → S → Reader (A × S)) where
+  pub each-begun : (n : ℕ) (c : S) (at : ℕ) (ls : List Line) → each n 0 c one at ls ≡ onto [] (each (n - 0) 0 c one at ls)
+  each-begun n c at ls = sym (onto-none _ ∙ ap (λ m. each m 0 c one at ls) (sub-zero n))
+
+  module _ (n i : ℕ) (xs : List A) (c : S) (at : ℕ) (ls : List Line) where
+    -- none is left
+    pub each-ended : n ≤ i → onto xs (each (n - i) i c one at ls) ≡ after (xs, c) at ls
+    each-ended h =
+        let z : n - i ≡ 0 = omega arith in
+        rw z (unfold onto each done in (rw append-nil))
+
+    module _ (h : i < n) where
+      one-more : n - i ≡ suc (n - (i + 1))
+      one-more = omega arith
+
+      -- the next is refused
+      pub each-failed : (v : Verdict) → one i c at ls ≡ failed v → onto xs (each (n - i) i c one at ls) ≡ failed v
+      each-failed v e = rw one-more (unfold each in ap (onto xs) (then-failed _ _ at ls v e) ∙ (unfold onto in refl))
+
+      -- the next is read
+      pub each-onward : (a : A × S) (next : ℕ) (rest : List Line) → one i c at ls ≡ after a next rest
+          → onto xs (each (n - i) i c one at ls) ≡ onto (xs ++ (a .0 ∷ [])) (each (n - (i + 1)) (i + 1) (a .1) one next rest)
+      each-onward a next rest e =
+          rw one-more (unfold each in ap (onto xs) (then-after _ _ at ls a next rest e) ∙ onto-more xs (a .0) (each (n - (i + 1)) (i + 1) (a .1) one) next rest)

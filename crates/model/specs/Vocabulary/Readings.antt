@@ -1,0 +1,119 @@
+-- Vocabulary of the code: what the code gives of a reading of lines: the same verdict, or the same place and what was read. Assumes nothing.
+use Prim.Native.Nat.{ℕ, _+_, _-_, _*_, _≤_, _<_}
+use mathlib.Core.Bool.{Bool, true, false}
+use mathlib.Core.List.{List, [], _∷_}
+use mathlib.Core.Path.{_≡_}
+use lib.Dec.{ltb, eqb}
+use lib.ListN.{length, take, drop}
+use Rattle.terms.specs.Bytes.{Text, bytes}
+use Rattle.terms.specs.declared.Limits.{Limits}
+use Rattle.code.specs.Blocks.{Block}
+use Rattle.code.specs.Statements.{Code}
+use Rattle.code.specs.Vocabulary.OpenBlocks.{packedBlocks}
+use Rattle.model.specs.declared.At.{At}
+use Rattle.model.specs.declared.ClassHead.{ClassHead}
+use Rattle.model.specs.declared.Keyed.{Keyed}
+use Rattle.model.specs.declared.Keyed.the-variants as Keyed
+use Rattle.model.specs.declared.MethodHead.{MethodHead}
+use Rattle.model.specs.declared.Read.{Read}
+use Rattle.model.specs.declared.Read.the-variants as Read
+use Rattle.model.specs.Bounds.{edition, mostClasses, allLines}
+use Rattle.model.specs.InOrder.{LinesRead, failed, after, Reader, _>>=_, right, keyLine, numberLine}
+use Rattle.model.specs.Lines.{lines, longestText, longestLine}
+use Rattle.model.specs.Model.{Method, Class, Model}
+use Rattle.model.specs.ModelText.{SoFar, mayStand}
+use Rattle.model.specs.Vocabulary.Belonging.{MethodTold, ClassTold, LineTold}
+use Rattle.model.specs.Vocabulary.Creations.{creationsIn}
+use Rattle.model.specs.Vocabulary.Standing.{limitsOf}
+use Rattle.model.specs.Vocabulary.Table.{Table, Rows, Same}
+
+-- a place in a text that is not too long, where no more lines were passed than bytes
+abbrev pub Placed : Text → At → Type 0
+Placed s p = (p .place ≤ length s) × (p .line ≤ p .place + 1) × (length s ≤ longestText)
+
+-- the first line
+abbrev pub begin : At
+begin = record { place = 0; line = 1 }
+
+-- reading the lines that begin at a place
+abbrev pub readAt : {A : Type 0} → Reader A → Text → At → LinesRead A
+readAt r s p = r (p .line) (lines (drop (p .place) s))
+
+-- what the code gives of a reading: its verdict, or a number that fits what was read, and where the lines that are left begin
+unfoldable pub Tells : {A : Type 0} → Text → (A → ℕ → Type 0) → Read → LinesRead A → Type 0
+Tells s P (Read.Failed v) x = x ≡ failed v
+Tells {A} s P (Read.Got n p) x = (a : A) × (x ≡ after a (p .line) (lines (drop (p .place) s))) × Placed s p × P a n
+
+-- no byte of a key is 0, which is what stands past the end
+unfoldable pub allPositive : Text → Bool
+allPositive [] = true
+allPositive (b ∷ w) = elim (ltb 0 b) [ true ↦ allPositive w | false ↦ false ]
+
+-- a line with a key, read for its value
+abbrev pub keyed : Text → Reader Text
+keyed key = keyLine key (λ at value. right value)
+
+-- what the code gives of it: the value stands between two places, and the next line begins behind the second
+unfoldable pub KeyTold : Text → At → Keyed → LinesRead Text → Type 0
+KeyTold s at (Keyed.Failed v) x = x ≡ failed v
+KeyTold s at (Keyed.Value p e) x =
+    (x ≡ after (take (e - p) (drop p s)) (at .line + 1) (lines (drop (e + 1) s))) × (p ≤ e) × (e < length s) × (e - p ≤ longestLine) × (at .line ≤ e + 1)
+
+-- a number in its range
+abbrev pub InRange : ℕ → ℕ → ℕ → ℕ → Type 0
+InRange lowest highest a n = (a ≡ n) × (lowest ≤ n) × (n ≤ highest)
+
+-- the first two lines
+unfoldable pub readHead : Reader ℕ
+readHead = do
+  _ ← numberLine (bytes "creol=") edition edition
+  numberLine (bytes "classes=") 1 mostClasses
+
+-- what is carried from line to line, by a table that tells the first code lines: all `lines=` together, and the open blocks
+abbrev pub soFar : Table → ℕ → ℕ → List Block → SoFar
+soFar t told total bs = record { total = total; creations = creationsIn t told; blocks = bs }
+
+-- the same from method to method
+abbrev pub between : Table → ℕ → SoFar
+between t total = soFar t total total []
+
+-- a text, its table and the shapes of its lines before a reading, and both after it
+module _ (s : Text) (t : Table) (x : List ℕ) (u : Table) (y : List ℕ) where
+  -- what a code line leaves, where all `lines=` together are known: the open blocks, and its own row
+  pub record LineLeft (m : MethodHead) (i total : ℕ) (got : Code × SoFar) (n : ℕ) : Type 0 where
+    pub blocks : List Block
+    pub so : got .1 ≡ soFar u (m .first + i + 1) total blocks
+    pub number : n ≡ packedBlocks blocks
+    pub stands : mayStand (eqb (i + 1) (m .count)) (got .0) blocks ≡ true
+    pub kept : Same t x u y 16 128 (m .first + i)
+    pub told : LineTold s (m .classes) u y (limitsOf m) (m .first + i) (got .0)
+
+  -- what a longer reading leaves, with so many code lines read before it: its own rows, where so many rows are as they were
+  pub record Left {A : Type 0} (Told : A → ℕ → Type 0) (classes methods total : ℕ) (got : A × SoFar) (n : ℕ) : Type 0 where
+    pub so : got .1 ≡ between u n
+    pub more : total ≤ n
+    pub most : n ≤ allLines
+    pub kept : Same t x u y classes methods total
+    pub told : Told (got .0) n
+
+  -- all code lines of a method
+  abbrev pub CodeLeft : MethodHead → List Code × SoFar → ℕ → Type 0
+  CodeLeft m = Left
+      (λ cs n. (length cs ≡ m .count) × (n ≡ m .first + m .count) × Rows (LineTold s (m .classes) u y (limitsOf m)) (m .first) cs)
+      16 128 (m .first)
+
+  -- a method, and all methods of a class
+  abbrev pub MethodLeft : ClassHead → ℕ → ℕ → Method × SoFar → ℕ → Type 0
+  MethodLeft c j total = Left (λ o n. MethodTold u n (LineTold s (c .classes) u y) (c .attrs) (c .index) j o) 16 (8 * c .index + j) total
+
+  abbrev pub MethodsLeft : ClassHead → ℕ → ℕ → List Method × SoFar → ℕ → Type 0
+  MethodsLeft c count total = Left
+      (λ os n. (length os ≡ count) × Rows (MethodTold u n (LineTold s (c .classes) u y) (c .attrs) (c .index)) 0 os)
+      16 (8 * c .index) total
+
+  -- a class, and all classes
+  abbrev pub ClassLeft : ℕ → ℕ → ℕ → Class × SoFar → ℕ → Type 0
+  ClassLeft classes k total = Left (λ c n. ClassTold u n (LineTold s classes u y) k c) k (8 * k) total
+
+  abbrev pub ClassesLeft : ℕ → Model × SoFar → ℕ → Type 0
+  ClassesLeft count = Left (λ m n. (length m ≡ count) × Rows (ClassTold u n (LineTold s count u y)) 0 m) 0 0 0
