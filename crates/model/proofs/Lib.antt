@@ -15,6 +15,7 @@ pub mod Cutting
 pub mod Framing
 pub mod KeyLines
 pub mod Lookup
+pub mod LookupShapes
 pub mod Loops
 pub mod ModelTold
 pub mod NumberLines
