@@ -22,23 +22,8 @@ use Rattle.rules.specs.Next.{Next, refused, moved, cellsAfter}
 use Rattle.rules.specs.Step.{next}
 use Rattle.engine.specs.Drive.{mostSteps, choicesIn, firstAccepted, driven}
 use Rattle.engine.specs.Entries.{Outcome, atNoLine, outcome, onModel, onConfiguration, start, step, run, droveTo, driveIn}
+use Rattle.engine.specs.Mixtures.{Entry, stepping, running, driving, leaves, leaveAll}
 use Rattle.engine.specs.Run.{runCells, runAnswers}
-
--- an entry that is asked after a start: step and run with their choices, run with the answers that it is lent, drive with its order and budget
-pub data Entry : Type 0 where
-  stepping : Choice → Entry
-  running : List Choice → List ℤ → Entry
-  driving : List Kind → ℕ → Entry
-
--- the cells that an entry leaves, and those that several leave, one after the other
-unfoldable pub leaves : Text → Cells → Entry → Cells
-leaves s c (stepping choice) = step s c choice .cells
-leaves s c (running choices answers) = run s c choices answers .cells
-leaves s c (driving order budget) = driveIn order s c budget .cells
-
-unfoldable pub leaveAll : Text → Cells → List Entry → Cells
-leaveAll s c [] = c
-leaveAll s c (e ∷ es) = leaveAll s (leaves s c e) es
 
 -- a run of two lists, one behind the other
 pub run-append : (m : Model) (c : Cells) (a b : List Choice) → runCells m c (a ++ b) ≡ runCells m (runCells m c a) b

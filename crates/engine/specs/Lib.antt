@@ -2,3 +2,4 @@
 pub mod Run
 pub mod Drive
 pub mod Entries
+pub mod Mixtures

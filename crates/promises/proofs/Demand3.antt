@@ -16,7 +16,7 @@ use Rattle.rules.specs.Next.{Next, refused, moved, cellsAfter}
 use Rattle.rules.specs.Step.{next}
 use Rattle.rules.proofs.Kept.{keeps}
 use Rattle.engine.specs.Entries.{start}
-use Rattle.engine.proofs.Mixtures.{Entry, leaveAll}
+use Rattle.engine.specs.Mixtures.{Entry, leaveAll}
 use Rattle.promises.specs.Histories.{cellsAt}
 use Rattle.promises.specs.Lives.{Demand3}
 use Rattle.promises.proofs.Demanded.{demanded, demanded-entries}

@@ -27,7 +27,8 @@ use Rattle.rules.specs.Next.{cellsAfter}
 use Rattle.rules.specs.Step.{next}
 use Rattle.engine.specs.Run.{runCells}
 use Rattle.engine.specs.Entries.{start}
-use Rattle.engine.proofs.Mixtures.{Entry, leaveAll, run-append, mixture-run}
+use Rattle.engine.specs.Mixtures.{Entry, leaveAll}
+use Rattle.engine.proofs.Mixtures.{run-append, mixture-run}
 use Rattle.promises.specs.Histories.{cellsAt, happenings, history, subject, about, Among, StepOf, cellsBefore, cellsNext, happensIn, Performs}
 use Rattle.promises.specs.Lives.{Issued, OneCall, TakenBy, CallerLess, stagesAfter, Demand3}
 use Rattle.promises.proofs.Acting.{up-to-is}
