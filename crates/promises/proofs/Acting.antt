@@ -1,25 +1,25 @@
 -- Every accepted choice is one of the cases of Acts. Assumes nothing.
 use Prim.Native.Nat.{ℕ, zero, suc, _≤_}
-use mathlib.Core.Bool.{Bool, true, false, _&&_}
-use mathlib.Core.List.{List, [], _∷_, _++_, append-assoc}
+use mathlib.Core.Bool.{Bool, true, false}
+use mathlib.Core.List.{List, [], _∷_, _++_, map, append-assoc}
 use mathlib.Core.Option.{Option, none, some}
-use mathlib.Core.Path.{_≡_, refl, sym, ap, subst}
-use native.Mathlib.Omega.{arith}
-use lib.Dec.{leb}
+use mathlib.Core.Path.{_≡_, refl, sym, ap, subst, _∙_}
 use lib.IntN.{ℤ, pos, negsuc}
-use lib.ListN.{length}
+use lib.ListN.{length, length-map}
 use Rattle.whole.specs.declared.Worked.the-variants.{Value}
-use Rattle.whole.specs.Plain.{onlyIf, whenever}
-use Rattle.whole.specs.Whole.{isTrue, nat, between}
+use Rattle.whole.specs.Plain.{whenever}
+use Rattle.whole.specs.Whole.{isTrue, nat}
 use Rattle.whole.specs.Refusals.{notInvoked, notQueued, noSuchMethod, notBound, objectBusy, notReady, notAnswered, objectRowsFull, callRowsFull}
 use Rattle.layout.specs.Layout.{Cells, Write, written, ofObject, ofCall, toCall, runningLabel, callee, value}
-use Rattle.layout.specs.Stages.{invoked, queued, bound, running, answered, replied, taken, objectsInUse, labelOf, upTo, inStage, objectOf, replyFor, staged}
+use Rattle.layout.specs.Stages.{invoked, queued, bound, running, answered, replied, taken, objectsInUse, upTo, inStage, objectOf, replyFor, staged}
 use Rattle.terms.specs.declared.Variable.{Variable}
 use Rattle.terms.specs.Trees.{Expression}
 use Rattle.terms.specs.Values.{held, valueOf}
 use Rattle.code.specs.Statements.{Code, skip, set, new, call, get, await, if, else, fi, while, od, return, mapStatement}
 use Rattle.model.specs.Model.{Model, Method}
-use Rattle.cells.specs.Standing.{Standing, standingOf, bodyOf}
+use Rattle.cells.specs.Standing.{Standing, bodyOf}
+use Rattle.cells.proofs.CallFromTest.{counted-is}
+use Rattle.cells.proofs.FromTest.{up-to-number}
 use Rattle.rules.specs.declared.Choice.{Choice}
 use Rattle.rules.specs.Events.{performing, executing, happening, eventsOf, issuing, spawning, arriving, binding, returning, delivering}
 use Rattle.rules.specs.Exec.{here, stored, nextObject, nextRow, objectLeft, rowLeft, classRuns, withObject, withCall, workedOut, onward, jumped, assigned, made, created, issued, tookReply, freed, crossed, suspended, awaited, branched, stageReturned, returned, performed}
@@ -29,11 +29,8 @@ use Rattle.rules.specs.Messages as Messages
 use Rattle.rules.specs.Next.{Next, refused, moved, cellsAfter}
 use Rattle.rules.specs.Step.{ruled, next}
 use Rattle.rules.proofs.Chosen.{up-to-some}
-use Rattle.promises.proofs.Acts.{must-moved, working-moved, all-moved, Running, Act, goes, jumps, stores, crosses, creates, spawns, issues, takes, suspends, returns, arrives, binds, starts, delivers}
-
--- what moves is not refused
-moves : {A : Type 0} (n : ℕ) (ws : List Write) → refused n ≡ moved ws → A
-moves n ws e = absurd (let z : _≡_ {A = ℕ} 0 1 = cc in omega arith)
+use Rattle.rules.proofs.Moved.{refused-moved, must-moved, working-moved, all-moved, next-moved, exec-moved}
+use Rattle.promises.proofs.Acts.{Running, Act, goes, jumps, stores, crosses, creates, spawns, issues, takes, suspends, returns, arrives, binds, starts, delivers}
 
 -- a running call's line
 module _ (m : Model) (c : Cells) (choice : Choice) (o l : ℕ) (at : Standing) (r : Running m c choice o l at) where
@@ -96,7 +93,7 @@ module _ (m : Model) (c : Cells) (choice : Choice) (o l : ℕ) (at : Standing) (
   calling x ex j es z zs ws s v n e = go (objectOf c z) refl
     where
       go : (f : Option ℕ) → objectOf c z ≡ f → Act m c choice ws (performing m c (written c ws) o l (call x ex j es))
-      go none h = moves _ ws (rw (h, issued) at e)
+      go none h = absurd (refused-moved (rw (h, issued) at e))
       go (some to) h =
           let first = must-moved (rowLeft c) callRowsFull _ ws (rw (h, issued) at e) in
           let f : withCall c invoked o to j zs ++ (stored c o l x (pos (nextRow c)) ++ onward m c o l at) ≡ ws = cc (first .1, append-assoc (withCall c invoked o to j zs) (stored c o l x (pos (nextRow c))) (onward m c o l at)) in
@@ -110,7 +107,7 @@ module _ (m : Model) (c : Cells) (choice : Choice) (o l : ℕ) (at : Standing) (
   getting x y ws s e = go (replyFor c o (held (here c o l) x)) refl
     where
       go : (f : Option ℕ) → replyFor c o (held (here c o l) x) ≡ f → Act m c choice ws (performing m c (written c ws) o l (get x y))
-      go none h = moves _ ws (rw (h, tookReply) at e)
+      go none h = absurd (refused-moved (rw (h, tookReply) at e))
       go (some from) h =
           let f : staged c from taken ++ (stored c o l y (ofCall c from value) ++ onward m c o l at) ≡ ws = cc (rw (h, tookReply) at e, append-assoc (staged c from taken) (stored c o l y (ofCall c from value)) (onward m c o l at)) in
           subst (λ w. Act m c choice w (performing m c (written c ws) o l (get x y))) f
@@ -125,11 +122,11 @@ module _ (m : Model) (c : Cells) (choice : Choice) (o l : ℕ) (at : Standing) (
       let v = working-moved _ _ ws e in
       let f : stored c o l x (v .0) ++ onward m c o l at ≡ ws = cc (v .2) in
       subst (λ w. Act m c choice w []) f (stores o l at r x (v .0))
-  performs-act (new x k es) s ws e = let v = all-moved es (valueOf (here c o l)) _ ws e in creating x k es (v .0) ws s (v .2)
+  performs-act (new x k es) s ws e = let v = all-moved (map (valueOf (here c o l)) es) _ ws e in creating x k es (v .0) ws s (v .2)
   performs-act (call x ex j es) s ws e =
       let v = working-moved _ _ ws e in
-      let vs = all-moved es (valueOf (here c o l)) _ ws (v .2) in
-      calling x ex j es (v .0) (vs .0) ws s (v .1) (vs .1) (vs .2)
+      let vs = all-moved (map (valueOf (here c o l)) es) _ ws (v .2) in
+      calling x ex j es (v .0) (vs .0) ws s (v .1) (vs .1 ∙ length-map es (valueOf (here c o l))) (vs .2)
   performs-act (get x y) s ws e = getting x y ws s e
   performs-act (await g) s ws e = let v = working-moved _ _ ws e in awaits (v .0) ws (v .2)
   performs-act (if ex) s ws e = let v = working-moved _ _ ws e in branches (v .0) ws (v .2)
@@ -156,32 +153,17 @@ kind-is (negsuc n) k e = cc
 
 -- a number that was found is the number that was asked
 pub up-to-is : (n : ℕ) (z : ℤ) (i : ℕ) → upTo n z ≡ some i → z ≡ pos i
-unfolding upTo between nat onlyIf
-up-to-is n (pos j) i e = go (leb 1 j && leb j n) e
-  where
-    go : (b : Bool) → onlyIf b j ≡ some i → pos j ≡ pos i
-    go true e = cc
-    go false e = cc
-up-to-is n (negsuc j) i e = cc
+up-to-is n z i e = let (h, s) = up-to-number n z i e in counted-is z i (h .counts) s
 
 module _ (m : Model) (c : Cells) (choice : Choice) where
   -- exec at an object in use
   exec-act : (o : ℕ) → choice ≡ choose exec o → 1 ≤ o → o ≤ inUse c exec → (ws : List Write) → Exec.exec m c o ≡ moved ws
       → Act m c choice ws (executing m c (written c ws) o)
-  unfolding Exec.exec executing inUse
-  exec-act o is low high ws e = by-label (labelOf c (ofObject c o runningLabel)) refl
-    where
-      by-standing : (l : ℕ) → labelOf c (ofObject c o runningLabel) ≡ some l → (f : Option Standing) → standingOf m c l ≡ f
-          → Act m c choice ws (executing m c (written c ws) o)
-      by-standing l h none g = moves _ ws (rw (h, Exec.exec, g) at e)
-      by-standing l h (some at) g =
-          rw (h, executing, g)
-          (performs-act m c choice o l at (record { chosen = is; low = low; high = high; runs = h; stands = g }) (at .statement) refl ws
-          (rw (h, Exec.exec, g) at e))
-
-      by-label : (f : Option ℕ) → labelOf c (ofObject c o runningLabel) ≡ f → Act m c choice ws (executing m c (written c ws) o)
-      by-label none h = moves _ ws (rw (h, Exec.exec) at e)
-      by-label (some l) h = by-standing l h (standingOf m c l) refl
+  unfolding executing inUse
+  exec-act o is low high ws e =
+      let (l, at, h, g, f) = exec-moved m c o ws e in
+      rw (h, executing, g)
+      (performs-act m c choice o l at (record { chosen = is; low = low; high = high; runs = h; stands = g }) (at .statement) refl ws f)
 
   -- the rules of a label
   ruled-act : (k : Kind) (n : ℕ) → choice ≡ choose k n → 1 ≤ n → n ≤ inUse c k → (ws : List Write) → ruled m c k n ≡ moved ws
@@ -199,7 +181,7 @@ module _ (m : Model) (c : Cells) (choice : Choice) where
       go : (b : Option Method) → bodyOf m c n ≡ b → inStage c n queued ≡ true
           → (elim (bodyOf m c n) as (λ t. Next) [ none ↦ refused noSuchMethod | some b ↦ moved (staged c n bound) ]) ≡ moved ws
           → Act m c choice ws (happening m c (written c ws) bind n)
-      go none h a e = moves _ ws (rw h at e)
+      go none h a e = absurd (refused-moved (rw h at e))
       go (some b) h a e =
           let f : staged c n bound ≡ ws = cc (rw h at e) in
           subst (λ w. Act m c choice w (binding n ∷ [])) f (binds n (record { chosen = is; low = low; high = high }) a)
@@ -217,20 +199,11 @@ module _ (m : Model) (c : Cells) (choice : Choice) where
 
   -- every accepted choice is one of the cases
   pub acts : (ws : List Write) → next m c choice ≡ moved ws → Act m c choice ws (eventsOf m c choice)
-  unfolding next eventsOf choose cellsAfter nat
-  acts ws e = by-kind (kindOf (choice .kind)) refl
-    where
-      by-number : (k : Kind) → kindOf (choice .kind) ≡ some k → (f : Option ℕ) → upTo (inUse c k) (choice .number) ≡ f
-          → Act m c choice ws (eventsOf m c choice)
-      by-number k h none g = moves _ ws (rw (h, next, g) at e)
-      by-number k h (some n) g =
-          let w = up-to-some (inUse c k) (choice .number) n g in
-          let z = up-to-is (inUse c k) (choice .number) n g in
-          let is : choice ≡ choose k n = λ i. record { kind = kind-is (choice .kind) k h i; number = z i } in
-          let same : n ≡ nat (choice .number) = sym (ap nat z) in
-          rw (e, eventsOf, h)
-          (subst (λ i. Act m c choice ws (happening m c (written c ws) k i)) same (ruled-act k n is (w .0) (w .1) ws (rw (h, next, g) at e)))
-
-      by-kind : (f : Option Kind) → kindOf (choice .kind) ≡ f → Act m c choice ws (eventsOf m c choice)
-      by-kind none h = moves _ ws (rw (h, next) at e)
-      by-kind (some k) h = by-number k h (upTo (inUse c k) (choice .number)) refl
+  unfolding eventsOf choose cellsAfter nat
+  acts ws e =
+      let (k, n, h, g, f) = next-moved m c choice ws e in
+      let w = up-to-some (inUse c k) (choice .number) n g in
+      let z = up-to-is (inUse c k) (choice .number) n g in
+      let is : choice ≡ choose k n = λ i. record { kind = kind-is (choice .kind) k h i; number = z i } in
+      let same : n ≡ nat (choice .number) = sym (ap nat z) in
+      rw (e, eventsOf, h) (subst (λ i. Act m c choice ws (happening m c (written c ws) k i)) same (ruled-act k n is (w .0) (w .1) ws f))

@@ -1,15 +1,13 @@
 -- What an accepted choice does, by its kind and the statement of the line: what it writes, what happens to calls, and under which tests. Every
 -- theorem about steps goes through these cases. Assumes nothing.
-use Prim.Native.Nat.{ℕ, suc, _≤_}
-use mathlib.Core.Bool.{Bool, true, false}
-use mathlib.Core.List.{List, [], _∷_, _++_, map}
+use Prim.Native.Nat.{ℕ, _≤_}
+use mathlib.Core.Bool.{true}
+use mathlib.Core.List.{List, [], _∷_, _++_}
 use mathlib.Core.Option.{some}
-use mathlib.Core.Path.{_≡_, refl, ap}
-use native.Mathlib.Omega.{arith}
+use mathlib.Core.Path.{_≡_}
 use lib.IntN.{ℤ, pos}
 use lib.ListN.{length}
-use Rattle.whole.specs.declared.Worked.{Worked}
-use Rattle.whole.specs.declared.Worked.the-variants.{Value, OutOfRange}
+use Rattle.whole.specs.declared.Worked.the-variants.{Value}
 use Rattle.whole.specs.Whole.{nat}
 use Rattle.layout.specs.Layout.{Cells, Write, written, ofObject, ofCall, toCall, runningLabel, value, callee}
 use Rattle.layout.specs.Stages.{invoked, queued, bound, running, answered, replied, taken, objectsInUse, rowsInUse, objectOf, labelOf, inStage, replyFor, staged}
@@ -24,29 +22,6 @@ use Rattle.rules.specs.Events.{Event, issuing, spawning, arriving, binding, ret
 use Rattle.rules.specs.Exec.{here, stored, nextObject, nextRow, objectLeft, rowLeft, withObject, withCall, onward, jumped, freed, crossed, suspended, stageReturned}
 use Rattle.rules.specs.Kinds.{Kind, exec, arrive, bind, start, deliver, choose}
 use Rattle.rules.specs.Messages.{started}
-use Rattle.rules.specs.Next.{Next, moved, must, working, workingAll}
-
--- a test that had to pass did
-pub must-moved : (b : Bool) (n : ℕ) (k : Next) (ws : List Write) → must b n k ≡ moved ws → (b ≡ true) × (k ≡ moved ws)
-unfolding must
-must-moved true n k ws e = (refl, e)
-must-moved false n k ws e = absurd (let z : _≡_ {A = ℕ} 0 1 = cc in omega arith)
-
--- a value that had to be worked out was
-pub working-moved : (w : Worked) (k : ℤ → Next) (ws : List Write) → working w k ≡ moved ws → (z : ℤ) × (w ≡ Value z) × (k z ≡ moved ws)
-unfolding working
-working-moved (Value z) k ws e = (z, refl, e)
-working-moved OutOfRange k ws e = absurd (let z : _≡_ {A = ℕ} 0 1 = cc in omega arith)
-
--- and so were several
-pub all-moved : (es : List Expression) (f : Expression → Worked) (k : List ℤ → Next) (ws : List Write) → workingAll (map f es) k ≡ moved ws
-    → (zs : List ℤ) × (length zs ≡ length es) × (k zs ≡ moved ws)
-unfolding workingAll
-all-moved [] f k ws e = ([], refl, e)
-all-moved (x ∷ es) f k ws e =
-    let first = working-moved (f x) (λ z. workingAll (map f es) (λ zs. k (z ∷ zs))) ws e in
-    let rest = all-moved es f (λ zs. k (first .0 ∷ zs)) ws (first .2) in
-    (first .0 ∷ rest .0, ap suc (rest .1), rest .2)
 
 -- an object in use is chosen and its running call stands at a line
 pub record Running (m : Model) (c : Cells) (choice : Choice) (o l : ℕ) (at : Standing) : Type 0 where

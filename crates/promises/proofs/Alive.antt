@@ -13,13 +13,14 @@ use Rattle.layout.specs.Layout.{Cells, callRows, Write, written, ofCall, caller
 use Rattle.layout.specs.Stages.{rowsInUse, stageOf, inStage}
 use Rattle.model.specs.Model.{Model}
 use Rattle.cells.specs.Configuration.{isConfiguration}
+use Rattle.cells.proofs.Tested.{equals}
 use Rattle.rules.specs.declared.Choice.{Choice}
 use Rattle.rules.specs.Events.{Event}
 use Rattle.rules.specs.Exec.{nextRow}
 use Rattle.promises.specs.Histories.{subject, about}
 use Rattle.promises.specs.Lives.{Issued, issuedBy}
 use Rattle.promises.proofs.Acts.{Act}
-use Rattle.promises.proofs.Configured.{equal-is, all-cells, calls-counted}
+use Rattle.promises.proofs.Configured.{all-cells, few-calls, calls-counted}
 use Rattle.promises.proofs.Counted.{act-counted}
 use Rattle.promises.proofs.Kept.{kept-caller, kept-stage}
 use Rattle.promises.proofs.Lived.{LivedTo, Living, about-own, about-other, about-append}
@@ -41,7 +42,7 @@ by-label {A} l k same other = go (eqb l k) refl
 -- a stage by its test
 pub staged-as : (c : Cells) (l s : ℕ) → inStage c l s ≡ true → stageOf c l ≡ pos s
 unfolding inStage
-staged-as c l s e = equal-is (stageOf c l) s e
+staged-as c l s e = equals (stageOf c l) s e
 
 -- a call that goes from a stage to a stage
 pub turned : (c d : Cells) (k s t : ℕ) (life es : List Event) → stageOf c k ≡ pos s → stageOf d k ≡ pos t → ofCall d k caller ≡ ofCall c k caller
@@ -54,12 +55,12 @@ turned c d k s t life es a b e on (n, i, h) =
 pub rows-after : {m : Model} {c : Cells} {choice : Choice} {ws : List Write} {es : List Event} → Act m c choice ws es → isConfiguration m c ≡ true
     → rowsInUse (written c ws) ≡ rowsInUse c + totalOf issuedBy es
 unfolding nat rowsInUse
-rows-after {m} {c} {choice} a is = ap nat (act-counted m c choice (all-cells m c is) (rowsInUse c) (calls-counted m c is .0) a)
+rows-after {m} {c} {choice} a is = ap nat (act-counted m c choice (all-cells m c is) (rowsInUse c) (calls-counted m c is) a)
 
 module _ {m : Model} {c : Cells} {choice : Choice} {ws : List Write} {es : List Event} (a : Act m c choice ws es) (is : isConfiguration m c ≡ true)
     (h : List Event) (alive : Alive c h) where
   few : rowsInUse c ≤ callRows
-  few = calls-counted m c is .2
+  few = few-calls m c is
 
   -- a call that is not moved lives on as it was
   lives-on : (l : ℕ) → Issued c l → (l ≡ movedBy a → ⊥) → about l es ≡ [] → Living (written c ws) l (about l (h ++ es))

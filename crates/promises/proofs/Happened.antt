@@ -4,11 +4,10 @@ use mathlib.Core.Bool.{true}
 use mathlib.Core.List.{List, [], _∷_, _++_, append-assoc}
 use mathlib.Core.Logic.{_⊎_, inl, inr}
 use mathlib.Core.Path.{_≡_, refl, sym, ap, subst, _∙_}
-use native.Mathlib.Omega.{arith}
 use lib.IntN.{ℤ, pos}
 use lib.ListN.{length}
 use Rattle.whole.specs.declared.Worked.the-variants.{Value}
-use Rattle.layout.specs.Layout.{Cells, callRows, Write, written, ofCall, toCall, toObject, runningLabel, value}
+use Rattle.layout.specs.Layout.{Cells, Write, written, ofCall, toCall, toObject, runningLabel, value}
 use Rattle.layout.specs.Stages.{stageOf, objectOf, objectsInUse, staged, invoked, queued, bound, running, replied, taken}
 use Rattle.layout.proofs.Laws.{length-written}
 use Rattle.terms.specs.declared.Variable.{Variable}
@@ -19,14 +18,16 @@ use Rattle.model.specs.Accepted.{AcceptedModel}
 use Rattle.model.specs.Model.{Model}
 use Rattle.cells.specs.Configuration.{isConfiguration}
 use Rattle.cells.specs.Standing.{Standing}
+use Rattle.cells.proofs.Configured.{configured}
 use Rattle.rules.specs.declared.Choice.{Choice}
 use Rattle.rules.specs.Events.{Event, issuing, spawning, arriving, binding, returning, delivering, taking}
 use Rattle.rules.specs.Exec.{here, stored, nextObject, nextRow, withObject, withCall, onward, freed, stageReturned}
+use Rattle.rules.proofs.Messaging.{label-row}
 use Rattle.promises.specs.Histories.{Among}
 use Rattle.promises.specs.Lives.{Issued}
 use Rattle.promises.proofs.Acting.{up-to-is}
 use Rattle.promises.proofs.Acts.{Act, Running, goes, jumps, stores, crosses, creates, spawns, issues, takes, suspends, returns, arrives, binds, starts, delivers}
-use Rattle.promises.proofs.Configured.{all-cells, calls-counted}
+use Rattle.promises.proofs.Configured.{all-cells}
 use Rattle.promises.proofs.Rows.{NewCall, new-call, value-reads, valueless}
 use Rattle.promises.proofs.Spared.{answeredBy, tail-scratch}
 use Rattle.promises.proofs.Subjects.{Replied, replied-for, row-left, running-issued, running-stage, spawn-label, issue-label, take-label, take-value}
@@ -117,8 +118,7 @@ module _ (m : Model) (accepted : AcceptedModel m) (c : Cells) (is : isConfigurat
       let p = toCall c l value z in
       let q = staged c l s in
       let t = toObject o runningLabel (pos 0) in
-      let w = calls-counted m c is in
-      let few : l ≤ callRows = let j = i .1 in omega arith in
+      let few = label-row m c (configured m c is) l (i .0) (i .1) in
       ap (λ ws. ofCall (written c ws) l value) (append-assoc p q t)
       ∙ ap (λ d. ofCall d l value) (written-append c p (q ++ t))
       ∙ value-reads c c (all-cells m c is) l (i .0) few (q ++ t) valueless z

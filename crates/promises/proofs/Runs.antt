@@ -29,7 +29,7 @@ use Rattle.promises.proofs.Acting.{acts}
 use Rattle.promises.proofs.Acts.{Act}
 use Rattle.promises.proofs.Alive.{Alive, rows-after}
 use Rattle.promises.proofs.Amongst.{among-left, among-cases, among-about}
-use Rattle.promises.proofs.Configured.{calls-counted}
+use Rattle.promises.proofs.Configured.{few-calls}
 use Rattle.promises.proofs.Happened.{Happened, what-happened, answers}
 use Rattle.promises.proofs.Kept.{kept-caller, kept-callee, kept-method, kept-args, kept-value}
 use Rattle.promises.proofs.Lived.{LivedTo, Living, about-own, about-other}
@@ -105,7 +105,7 @@ module _ (m : Model) (accepted : AcceptedModel m)
     step-same l i = go (next m c choice) refl
       where
         few : rowsInUse c ≤ callRows
-        few = calls-counted m c is .2
+        few = few-calls m c is
 
         go : (n : Next) → next m c choice ≡ n → SameCall c (cellsAfter c (next m c choice)) l
         go (refused k) e =
@@ -149,7 +149,7 @@ module _ (m : Model) (accepted : AcceptedModel m)
         go (refused k) e = ap (λ n. ofCall (cellsAfter c n) l value) e
         go (moved ws) e =
             let a = acts m c choice ws e in
-            ap (λ n. ofCall (cellsAfter c n) l value) e ∙ kept-value a (calls-counted m c is .2) l (i .0) (i .1) (other a)
+            ap (λ n. ofCall (cellsAfter c n) l value) e ∙ kept-value a (few-calls m c is) l (i .0) (i .1) (other a)
 
   -- along a list of choices
   pub run-alive : (c : Cells) → isConfiguration m c ≡ true → (h : List Event) → Alive c h → (choices : List Choice)

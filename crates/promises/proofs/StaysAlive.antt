@@ -15,16 +15,18 @@ use Rattle.model.specs.Accepted.{AcceptedModel}
 use Rattle.model.specs.Model.{Model}
 use Rattle.cells.specs.Configuration.{isConfiguration}
 use Rattle.cells.specs.Standing.{Standing}
+use Rattle.cells.proofs.Configured.{configured}
 use Rattle.rules.specs.declared.Choice.{Choice}
 use Rattle.rules.specs.Events.{Event, issuing, spawning, arriving, binding, returning, delivering, taking}
 use Rattle.rules.specs.Exec.{stored, nextObject, nextRow, withObject, withCall, onward, suspended, freed, stageReturned}
 use Rattle.rules.specs.Kinds.{Kind}
 use Rattle.rules.specs.Messages.{started}
+use Rattle.rules.proofs.Messaging.{label-row}
 use Rattle.promises.specs.Histories.{subject, about}
 use Rattle.promises.specs.Lives.{Issued, issuedBy}
 use Rattle.promises.proofs.Acts.{Act, Chosen, goes, jumps, stores, crosses, creates, spawns, issues, takes, suspends, returns, arrives, binds, starts, delivers}
 use Rattle.promises.proofs.Alive.{Alive, staged-as, turned, moves-alive, still-alive, grows-alive}
-use Rattle.promises.proofs.Configured.{all-cells, calls-counted}
+use Rattle.promises.proofs.Configured.{all-cells, few-calls}
 use Rattle.promises.proofs.Kept.{kept-caller}
 use Rattle.promises.proofs.Lived.{LivedTo, Living, about-own, about-other, on-arriving, on-binding, on-delivering, on-taking, on-returning, on-ending, on-suspending, on-starting}
 use Rattle.promises.proofs.Rows.{new-call, stage-reads, unstaged}
@@ -50,7 +52,7 @@ module _ {m : Model} {c : Cells} {choice : Choice} {ws : List Write} {es : List 
       (λ l n. ap (about l) one ∙ other-than c e (movedBy a) sub i l n)
       (λ i life live.
       subst (λ u. Living (written c ws) (movedBy a) (life ++ u)) (sym (ap (about (movedBy a)) one ∙ about-own e (movedBy a) sub))
-      (turned c (written c ws) (movedBy a) s t life (e ∷ []) before after (kept-caller a (calls-counted m c is .2) (movedBy a) (i .0) (i .1)) (on life) live))
+      (turned c (written c ws) (movedBy a) s t life (e ∷ []) before after (kept-caller a (few-calls m c is) (movedBy a) (i .0) (i .1)) (on life) live))
 
   -- by none
   by-none : es ≡ []
@@ -62,12 +64,12 @@ module _ {m : Model} {c : Cells} {choice : Choice} {ws : List Write} {es : List 
       moves-alive a is h alive (ap (totalOf issuedBy) none) (λ l n. ap (about l) none)
       (λ i life live.
       subst (λ u. Living (written c ws) (movedBy a) (life ++ u)) (sym (ap (about (movedBy a)) none))
-      (turned c (written c ws) (movedBy a) s t life [] before after (kept-caller a (calls-counted m c is .2) (movedBy a) (i .0) (i .1)) (on life) live))
+      (turned c (written c ws) (movedBy a) s t life [] before after (kept-caller a (few-calls m c is) (movedBy a) (i .0) (i .1)) (on life) live))
 
 -- the stage after each move
 module _ (m : Model) (c : Cells) (is : isConfiguration m c ≡ true) (l : ℕ) (i : Issued c l) where
   few : l ≤ callRows
-  few = let w = calls-counted m c is in let j = i .1 in omega arith
+  few = label-row m c (configured m c is) l (i .0) (i .1)
 
   -- where the stage is all that is written
   stage-now : (s : ℕ) → stageOf (written c (staged c l s)) l ≡ pos s

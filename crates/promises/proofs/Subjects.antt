@@ -24,14 +24,19 @@ use Rattle.model.specs.Accepted.{AcceptedModel}
 use Rattle.model.specs.Model.{Model}
 use Rattle.cells.specs.Configuration.{isConfiguration}
 use Rattle.cells.specs.Standing.{Standing}
+use Rattle.cells.proofs.Tested.{equals}
+use Rattle.cells.proofs.Configured.{configured}
 use Rattle.rules.specs.declared.Choice.{Choice}
-use Rattle.rules.specs.Events.{taking, performing}
+use Rattle.rules.specs.Events as Events
+use Rattle.rules.specs.Events.{taking}
 use Rattle.rules.specs.Exec.{here, stored, nextObject, nextRow, objectLeft, rowLeft, withObject, withCall, onward}
 use Rattle.rules.proofs.Chosen.{up-to-some}
+use Rattle.rules.proofs.Messaging.{label-row}
+use Rattle.rules.proofs.Performing.{Performing, performing}
 use Rattle.promises.specs.Lives.{Issued}
 use Rattle.promises.proofs.Acting.{up-to-is}
 use Rattle.promises.proofs.Acts.{Running}
-use Rattle.promises.proofs.Configured.{equal-is, all-cells, objects-counted, calls-counted, runs-stage}
+use Rattle.promises.proofs.Configured.{all-cells, few-objects}
 use Rattle.promises.proofs.Rows.{new-count, new-running, stored-reads, line-reads}
 use Rattle.promises.proofs.Spared.{tail-scratch}
 use Rattle.promises.proofs.Standings.{Fits, stood-at, stands-within}
@@ -68,8 +73,8 @@ replied-for c o z from e = by-label (labelOf c z) refl
           label = up-to-is (rowsInUse c) z l h;
           low = w .0;
           high = w .1;
-          stage-is = equal-is (stageOf c l) replied (both-left (inStage c l replied) (eqZ (ofCall c l caller) (pos o)) r);
-          caller-is = equal-is (ofCall c l caller) o (both-right (inStage c l replied) (eqZ (ofCall c l caller) (pos o)) r);
+          stage-is = equals (stageOf c l) replied (both-left (inStage c l replied) (eqZ (ofCall c l caller) (pos o)) r);
+          caller-is = equals (ofCall c l caller) o (both-right (inStage c l replied) (eqZ (ofCall c l caller) (pos o)) r);
         })
     by-reply l h false r e = absurd (let n : _≡_ {A = ℕ} 0 1 = cc (rw (h, replyFor, r) at e) in omega arith)
 
@@ -79,22 +84,26 @@ replied-for c o z from e = by-label (labelOf c z) refl
 
 module _ (m : Model) (accepted : AcceptedModel m) (c : Cells) (is : isConfiguration m c ≡ true) (choice : Choice) (o l : ℕ) (at : Standing)
     (r : Running m c choice o l at) where
-  -- the running call is an issued one, of stage 4
+  -- the object's running call in its configuration
+  running-call : Performing m c o l
+  running-call = performing m c o l (configured m c is) (r .low) (r .high) (r .runs)
+
+  -- it is an issued one
   pub running-issued : Issued c l
-  unfolding labelOf
-  running-issued = let w = up-to-some (rowsInUse c) (ofObject c o runningLabel) l (r .runs) in (w .0, w .1)
+  running-issued = running-call .call
 
   -- and runs
   pub running-stage : stageOf c l ≡ pos running
-  running-stage = runs-stage m c is o l (r .low) (r .high) (r .runs)
+  unfolding stageOf
+  running-stage = running-call .stage
 
-  -- its row and its object's
+  -- its label has a row
   label-few : l ≤ callRows
-  label-few = let i = running-issued in let w = calls-counted m c is in omega arith
+  label-few = label-row m c (configured m c is) l (running-issued .0) (running-issued .1)
 
   -- its object has a row
   object-few : o ≤ objectRows
-  object-few = let w = objects-counted m c is in let h = r .high in omega arith
+  object-few = let w = few-objects m c is in let h = r .high in omega arith
 
   -- what it stores is there, in whatever cells it is written to
   pub stores-it : (e : Cells) → length e ≡ length c → (x : Variable) → Fits x → (z : ℤ)
@@ -134,8 +143,8 @@ module _ (m : Model) (accepted : AcceptedModel m) (c : Cells) (is : isConfigurat
 
   -- `get`: the label is the reply's, the line goes on, so that it is taken, and Y gets its value
   pub take-label : (x y : Variable) (from : ℕ) → replyFor c o (held (here c o l) x) ≡ some from → (d : Cells)
-      → d ≡ written c (staged c from taken ++ (stored c o l y (ofCall c from value) ++ onward m c o l at)) → performing m c d o l (get x y) ≡ taking from ∷ []
-  unfolding performing eqZ nat
+      → d ≡ written c (staged c from taken ++ (stored c o l y (ofCall c from value) ++ onward m c o l at)) → Events.performing m c d o l (get x y) ≡ taking from ∷ []
+  unfolding Events.performing eqZ nat
   take-label x y from h d e =
       let u = replied-for c o (held (here c o l) x) from h in
       let before : ofCall c l line ≡ pos (at .at) = stood-at m c l at (r .stands) .line-is in
@@ -144,7 +153,7 @@ module _ (m : Model) (accepted : AcceptedModel m) (c : Cells) (is : isConfigurat
       ∙ line-reads m c o l at c (all-cells m c is) (running-issued .0) label-few (staged c from taken ++ stored c o l y (ofCall c from value)) in
       let differ : eqZ (ofCall c l line) (ofCall d l line) ≡ false =
       ap (λ z. eqZ z (ofCall d l line)) before ∙ ap (eqZ (pos (at .at))) after ∙ ne-eqb (at .at) (at .at + 1) (λ s. omega arith) in
-      rw (differ, performing) (ap (λ z. taking (nat z) ∷ []) (u .label))
+      rw (differ, Events.performing) (ap (λ z. taking (nat z) ∷ []) (u .label))
 
   -- and Y gets the value of its row
   pub take-value : (x y : Variable) (from : ℕ) → at .statement ≡ get x y → (d : Cells)
