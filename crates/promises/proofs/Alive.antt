@@ -9,7 +9,7 @@ use lib.Dec.{eqb}
 use lib.IntN.{pos}
 use Rattle.whole.specs.Lists.{totalOf}
 use Rattle.whole.specs.Whole.{eqZ, nat}
-use Rattle.layout.specs.Layout.{Cells, callRows, Write, written, ofCall, caller}
+use Rattle.layout.specs.Layout.{Cells, Write, written, ofCall, caller}
 use Rattle.layout.specs.Stages.{rowsInUse, stageOf, inStage}
 use Rattle.model.specs.Model.{Model}
 use Rattle.cells.specs.Configuration.{isConfiguration}
@@ -20,7 +20,7 @@ use Rattle.rules.specs.Exec.{nextRow}
 use Rattle.promises.specs.Histories.{subject, about}
 use Rattle.promises.specs.Lives.{Issued, issuedBy}
 use Rattle.promises.proofs.Acts.{Act}
-use Rattle.promises.proofs.Configured.{all-cells, few-calls, calls-counted}
+use Rattle.promises.proofs.Configured.{all-cells, calls-counted}
 use Rattle.promises.proofs.Counted.{act-counted}
 use Rattle.promises.proofs.Kept.{kept-caller, kept-stage}
 use Rattle.promises.proofs.Lived.{LivedTo, Living, about-own, about-other, about-append}
@@ -59,18 +59,15 @@ rows-after {m} {c} {choice} a is = ap nat (act-counted m c choice (all-cells m c
 
 module _ {m : Model} {c : Cells} {choice : Choice} {ws : List Write} {es : List Event} (a : Act m c choice ws es) (is : isConfiguration m c ≡ true)
     (h : List Event) (alive : Alive c h) where
-  few : rowsInUse c ≤ callRows
-  few = few-calls m c is
-
   -- a call that is not moved lives on as it was
   lives-on : (l : ℕ) → Issued c l → (l ≡ movedBy a → ⊥) → about l es ≡ [] → Living (written c ws) l (about l (h ++ es))
   lives-on l (low, high) ne none =
       let (s, st, lived) = alive .living l (low, high) in
       let same : about l (h ++ es) ≡ about l h = about-append l h es ∙ ap (λ t. about l h ++ t) none ∙ append-nil (about l h) in (
         s,
-        kept-stage a few l low high ne ∙ st,
+        kept-stage a l high ne ∙ st,
         subst (LivedTo l (eqZ (ofCall (written c ws) l caller) (pos 0)) s) (sym same)
-            (subst (λ z. LivedTo l (eqZ z (pos 0)) s (about l h)) (sym (kept-caller a few l low high)) lived),
+            (subst (λ z. LivedTo l (eqZ z (pos 0)) s (about l h)) (sym (kept-caller a l high)) lived),
       )
 
   -- a step that moves one call at most, and issues none

@@ -4,11 +4,11 @@ use mathlib.Core.Bool.{Bool, true, false}
 use mathlib.Core.List.{List, [], _∷_, _++_}
 use mathlib.Core.Path.{_≡_, refl, sym, ap, subst, _∙_}
 use native.Mathlib.Omega.{arith}
-use lib.IntN.{ℤ, pos}
+use lib.IntN.{pos}
 use lib.ListN.{length, replicate}
 use Rattle.whole.specs.Lists.{totalOf}
 use Rattle.whole.specs.Whole.{eqZ, nat}
-use Rattle.layout.specs.Layout.{Cells, call, allCells, read, Write, written, calls, ofCall, toCall, toObject, runningLabel, cleared, callee, value, line, newCall}
+use Rattle.layout.specs.Layout.{Cells, allCells, read, Write, written, calls, ofCall, toCall, toObject, runningLabel, cleared, callee, value, line}
 use Rattle.layout.specs.Stages.{rowsInUse, staged, invoked, queued, bound, running, replied, taken}
 use Rattle.layout.proofs.Laws.{length-written}
 use Rattle.layout.proofs.Open.{layout-open}
@@ -16,6 +16,7 @@ use Rattle.terms.specs.declared.Variable.{Variable}
 use Rattle.code.specs.Statements.{get}
 use Rattle.model.specs.Model.{Model}
 use Rattle.cells.specs.Fresh.{fresh}
+use Rattle.cells.proofs.Writes.{written-append}
 use Rattle.rules.specs.declared.Choice.{Choice}
 use Rattle.rules.specs.Events.{Event, arriving, binding, returning, delivering, eventsOf, firstEvents, performing}
 use Rattle.rules.specs.Exec.{stored, nextObject, nextRow, withObject, withCall, onward, jumped, crossed, suspended, freed, stageReturned}
@@ -27,21 +28,15 @@ use Rattle.promises.specs.Histories.{happenings, history}
 use Rattle.promises.specs.Lives.{issuedBy, CallsIssued}
 use Rattle.promises.proofs.Acting.{acts}
 use Rattle.promises.proofs.Acts.{Act, goes, jumps, stores, crosses, creates, spawns, issues, takes, suspends, returns, arrives, binds, starts, delivers}
+use Rattle.promises.proofs.Rows.{call-rows}
 use Rattle.promises.proofs.Spared.{uncounted, uncounts, onward-scratch, jumped-scratch, crossed-scratch, tail-uncounted, new-object-uncounted, staged-uncounted}
-use Rattle.promises.proofs.Untouched.{AtOnly, written-append, only-append, only-call, only-object, only-row, untouched, reads-back}
+use Rattle.promises.proofs.Untouched.{AtOnly, only-append, only-call, only-object, untouched}
 
 -- the cells after a choice are as many as before
 pub length-after : (c : Cells) (n : Next) → length (cellsAfter c n) ≡ length c
 unfolding cellsAfter
 length-after c (refused i) = refl
 length-after c (moved ws) = length-written c ws
-
--- a new call is counted
-pub call-counted : (c d : Cells) (st by to j : ℕ) (zs : List ℤ) → length d ≡ allCells → read (written d (withCall c st by to j zs)) calls ≡ pos (nextRow c)
-unfolding withCall newCall uncounted
-call-counted c d st by to j zs long =
-    reads-back uncounted d calls (pos (nextRow c)) (newCall (nextRow c) st by to j zs) long (omega arith)
-    (only-row uncounted (call (nextRow c)) 0 _ (λ g h. refl)) refl
 
 -- writes elsewhere leave the count
 pub count-left : (c : Cells) (ws : List Write) → AtOnly uncounted ws → read (written c ws) calls ≡ read c calls
@@ -84,14 +79,14 @@ module _ (m : Model) (c : Cells) (choice : Choice) (long : length c ≡ allCells
       let q = withCall c running 0 (nextObject c) 0 [] in
       ap (λ d. read d calls) (written-append c (p ++ q) t ∙ ap (λ d. written d t) (written-append c p q))
       ∙ count-left (written (written c p) q) t (tail-uncounted m c o l at x (pos (nextObject c)))
-      ∙ call-counted c (written c p) running 0 (nextObject c) 0 [] (length-written c p ∙ long)
+      ∙ call-rows c (written c p) (length-written c p ∙ long) b 0 running 0 (nextObject c) 0 [] .calls
       ∙ ap pos next-is
   act-counted (issues o l at r x e j es z to zs s v h n′ a d f) =
       let t = stored c o l x (pos (nextRow c)) ++ onward m c o l at in
       let q = withCall c invoked o to j zs in
       ap (λ d. read d calls) (written-append c q t)
       ∙ count-left (written c q) t (tail-uncounted m c o l at x (pos (nextRow c)))
-      ∙ call-counted c c invoked o to j zs long
+      ∙ call-rows c c long a 0 invoked o to j zs .calls
       ∙ ap pos next-is
   act-counted (takes o l at r x y from s h d f) =
       still _ (performing m c d o l (get x y))

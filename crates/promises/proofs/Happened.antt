@@ -4,6 +4,7 @@ use mathlib.Core.Bool.{true}
 use mathlib.Core.List.{List, [], _∷_, _++_, append-assoc}
 use mathlib.Core.Logic.{_⊎_, inl, inr}
 use mathlib.Core.Path.{_≡_, refl, sym, ap, subst, _∙_}
+use native.Mathlib.Omega.{arith}
 use lib.IntN.{ℤ, pos}
 use lib.ListN.{length}
 use Rattle.whole.specs.declared.Worked.the-variants.{Value}
@@ -19,6 +20,7 @@ use Rattle.model.specs.Model.{Model}
 use Rattle.cells.specs.Configuration.{isConfiguration}
 use Rattle.cells.specs.Standing.{Standing}
 use Rattle.cells.proofs.Configured.{configured}
+use Rattle.cells.proofs.Writes.{written-append}
 use Rattle.rules.specs.declared.Choice.{Choice}
 use Rattle.rules.specs.Events.{Event, issuing, spawning, arriving, binding, returning, delivering, taking}
 use Rattle.rules.specs.Exec.{here, stored, nextObject, nextRow, withObject, withCall, onward, freed, stageReturned}
@@ -28,10 +30,10 @@ use Rattle.promises.specs.Lives.{Issued}
 use Rattle.promises.proofs.Acting.{up-to-is}
 use Rattle.promises.proofs.Acts.{Act, Running, goes, jumps, stores, crosses, creates, spawns, issues, takes, suspends, returns, arrives, binds, starts, delivers}
 use Rattle.promises.proofs.Configured.{all-cells}
-use Rattle.promises.proofs.Rows.{NewCall, new-call, value-reads, valueless}
+use Rattle.promises.proofs.Rows.{NewCall, new-call, field-reads, valueless}
 use Rattle.promises.proofs.Spared.{answeredBy, tail-scratch}
-use Rattle.promises.proofs.Subjects.{Replied, replied-for, row-left, running-issued, running-stage, spawn-label, issue-label, take-label, take-value}
-use Rattle.promises.proofs.Untouched.{written-append, only-append, only-call, only-object}
+use Rattle.promises.proofs.Subjects.{Replied, replied-for, running-issued, running-stage, spawn-label, issue-label, take-label, take-value}
+use Rattle.promises.proofs.Untouched.{only-append, only-call, only-object}
 
 module _ (m : Model) (c : Cells) (choice : Choice) (d : Cells) where
   -- a `call`: the line, and the row of the next label
@@ -120,8 +122,7 @@ module _ (m : Model) (accepted : AcceptedModel m) (c : Cells) (is : isConfigurat
       let t = toObject o runningLabel (pos 0) in
       let few = label-row m c (configured m c is) l (i .0) (i .1) in
       ap (λ ws. ofCall (written c ws) l value) (append-assoc p q t)
-      ∙ ap (λ d. ofCall d l value) (written-append c p (q ++ t))
-      ∙ value-reads c c (all-cells m c is) l (i .0) few (q ++ t) valueless z
+      ∙ field-reads c c (all-cells m c is) l (i .0) few [] value z (omega arith) valueless (q ++ t)
       (only-append valueless q t (only-call valueless c l 0 (pos s) refl) (only-object valueless o runningLabel (pos 0) refl)) refl
 
   -- every case
@@ -136,8 +137,8 @@ module _ (m : Model) (accepted : AcceptedModel m) (c : Cells) (is : isConfigurat
       let p = withObject c k (nextRow c) zs in
       let q = withCall c running 0 (nextObject c) 0 [] in
       let t = stored c o l x (pos (nextObject c)) ++ onward m c o l at in
-      let label = spawn-label m accepted c is choice o l at r x k zs a d f in
-      let new = new-call c (written c p) (length-written c p ∙ all-cells m c is) (row-left c b) running 0 (nextObject c) 0 [] t (tail-scratch m c o l at x (pos (nextObject c))) in
+      let label = spawn-label m accepted c is choice o l at r x k zs a b d f in
+      let new = new-call c (written c p) (length-written c p ∙ all-cells m c is) b running 0 (nextObject c) 0 [] t (tail-scratch m c o l at x (pos (nextObject c))) in
       let same : written (written (written c p) q) t ≡ written c ((p ++ q) ++ t) = sym (written-append c (p ++ q) t ∙ ap (λ d. written d t) (written-append c p q)) in
       let count : nextObject c ≡ objectsInUse (written c ((p ++ q) ++ t)) = sym (label .1) ∙ ap objectsInUse f in
       of-one m c choice (written c ((p ++ q) ++ t)) e (spawning _)
@@ -152,7 +153,7 @@ module _ (m : Model) (accepted : AcceptedModel m) (c : Cells) (is : isConfigurat
       let q = withCall c invoked o to j zs in
       let t = stored c o l x (pos (nextRow c)) ++ onward m c o l at in
       let label = issue-label m accepted c is choice o l at r x ex j es to zs s d f in
-      let new = new-call c c (all-cells m c is) (row-left c a) invoked o to j zs t (tail-scratch m c o l at x (pos (nextRow c))) in
+      let new = new-call c c (all-cells m c is) a invoked o to j zs t (tail-scratch m c o l at x (pos (nextRow c))) in
       let number : z ≡ pos to = up-to-is (objectsInUse c) z to g in
       of-one m c choice (written c (q ++ t)) e (issuing _)
       (record {

@@ -2,18 +2,17 @@
 use Prim.Native.Nat.{ℕ, _≤_}
 use mathlib.Core.Bool.{Bool, true, false, _&&_, _||_}
 use mathlib.Core.List.{List}
-use mathlib.Core.Path.{_≡_, refl, sym, _∙_}
-use native.Mathlib.Omega.{arith}
+use mathlib.Core.Path.{_≡_, refl}
 use borrow.Author.Tests.{le-ltb, ne-eqb}
 use lib.Dec.{ltb, eqb}
-use Rattle.layout.specs.Layout.{Cells, call, callRows, Write, written, ofCall, stage, caller, callee, method, args, value}
+use Rattle.layout.specs.Layout.{Cells, call, Write, written, ofCall, stage, caller, callee, method, args, value}
 use Rattle.layout.specs.Stages.{rowsInUse, stageOf}
 use Rattle.model.specs.Model.{Model}
 use Rattle.rules.specs.declared.Choice.{Choice}
 use Rattle.rules.specs.Events.{Event}
 use Rattle.promises.proofs.Acts.{Act}
 use Rattle.promises.proofs.Spared.{ownField, sparing, movedBy, answeredBy, act-spares}
-use Rattle.promises.proofs.Untouched.{untouched, of-call-is}
+use Rattle.promises.proofs.Untouched.{field-kept}
 
 -- neither test holds
 or-none : (a b : Bool) → a ≡ false → b ≡ false → a || b ≡ false
@@ -27,12 +26,9 @@ unfolding sparing
 spared n s v l f h own a b = or-none (ltb n l || ownField f) _ (or-none (ltb n l) (ownField f) (le-ltb n l h) own) (or-none (eqb f stage && eqb l s) _ a b)
 
 module _ {m : Model} {c : Cells} {choice : Choice} {ws : List Write} {es : List Event} (a : Act m c choice ws es)
-    (few : rowsInUse c ≤ callRows) (l : ℕ) (low : 1 ≤ l) (high : l ≤ rowsInUse c) where
+    (l : ℕ) (high : l ≤ rowsInUse c) where
   kept : (f : ℕ) → sparing (rowsInUse c) (movedBy a) (answeredBy a) (call l f) ≡ false → ofCall (written c ws) l f ≡ ofCall c l f
-  kept f e =
-      of-call-is (written c ws) l low (omega arith) f
-      ∙ untouched (sparing (rowsInUse c) (movedBy a) (answeredBy a)) c ws (call l f) (act-spares a) e
-      ∙ sym (of-call-is c l low (omega arith) f)
+  kept f e = field-kept (sparing (rowsInUse c) (movedBy a) (answeredBy a)) c ws l f (act-spares a) e
 
   -- who called
   pub kept-caller : ofCall (written c ws) l caller ≡ ofCall c l caller

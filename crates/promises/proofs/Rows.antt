@@ -2,38 +2,30 @@
 -- Assumes nothing.
 use Prim.Native.Nat.{ℕ, _+_, _≤_, _<_}
 use mathlib.Core.Bool.{Bool, true, false}
-use mathlib.Core.List.{List, [], _∷_, _++_}
+use mathlib.Core.List.{List, [], _++_}
 use mathlib.Core.Path.{_≡_, refl, sym, ap, _∙_}
 use native.Mathlib.Omega.{arith}
-use borrow.Author.Tests.{ne-eqb}
+use borrow.Author.Tests.{ltb-true}
 use lib.Dec.{leb, eqb}
 use lib.IntN.{ℤ, pos}
-use lib.ListN.{length, getD}
+use lib.ListN.{length}
 use Rattle.whole.specs.Whole.{nat}
-use Rattle.layout.specs.Layout.{Cells, Place, header, object, call, allCells, objectRows, callRows, mostAttributes, mostLocals, read, write, Write, written, objects, calls, ofObject, toObject, ofCall, toCall, runningLabel, attribute, stage, caller, callee, method, args, line, value, local, padded, newObject, newCall}
-use Rattle.layout.specs.Stages.{rowsInUse, objectsInUse, staged, stageOf}
-use Rattle.layout.proofs.Laws.{length-write, length-written}
+use Rattle.layout.specs.Layout.{Cells, Place, header, object, call, allCells, objectRows, callRows, callCells, mostAttributes, mostLocals, read, Write, written, objects, calls, ofObject, toObject, ofCall, toCall, runningLabel, attribute, stage, caller, callee, method, args, line, local}
+use Rattle.layout.specs.Stages.{rowsInUse, objectsInUse, stageOf}
 use Rattle.terms.specs.declared.Variable.{Variable}
 use Rattle.terms.specs.declared.Variable.the-variants.{Attribute, Local}
 use Rattle.terms.specs.Values.{held}
 use Rattle.model.specs.Model.{Model}
 use Rattle.cells.specs.Standing.{Standing}
-use Rattle.rules.specs.Exec.{here, stored, nextObject, nextRow, withObject, withCall, onward}
+use Rattle.cells.proofs.Facts.{Fields}
+use Rattle.cells.proofs.NewRows.{objectValues, callValues, wrote-new-object, wrote-new-call}
+use Rattle.cells.proofs.Rows.{Rows, unwritten, valued, counts-objects, counts-calls, wrote-call, wrote-object}
+use Rattle.cells.proofs.Writes.{put-same, written-append, object-read}
+use Rattle.rules.specs.Exec.{here, stored, nextObject, nextRow, objectLeft, rowLeft, withObject, withCall, onward}
+use Rattle.rules.proofs.Sparing.{last-in-row, other-in-row}
 use Rattle.promises.proofs.Spared.{scratch, ownField}
 use Rattle.promises.proofs.Standings.{Fits}
-use Rattle.promises.proofs.Untouched.{AtOnly, written-append, only-call, only-row, untouched, reads-back, of-call-is, to-call-is, fieldIn, row-reads}
-
--- places of calls, and their count
-unfoldable pub inCalls : Place → Bool
-inCalls (header i) = eqb i 1
-inCalls (object o f) = false
-inCalls (call r f) = true
-
--- places of objects
-unfoldable pub inObjects : Place → Bool
-inObjects (header i) = false
-inObjects (object o f) = true
-inObjects (call r f) = false
+use Rattle.promises.proofs.Untouched.{AtOnly, untouched, field-kept}
 
 -- places other than stages
 unfoldable pub unstaged : Place → Bool
@@ -47,11 +39,25 @@ valueless (header i) = true
 valueless (object o f) = true
 valueless (call r f) = eqb f stage
 
--- places of one field
-unfoldable pub atField : ℕ → Place → Bool
-atField g p = eqb (fieldIn p) g
+-- the next object, where a row of objects is left
+pub object-rows : (c : Cells) → length c ≡ allCells → objectLeft c ≡ true → (r k l : ℕ) (zs : List ℤ)
+    → Rows c (written c (withObject c k l zs)) (pos (nextObject c)) (read c calls) r (nextObject c) (ofCall c r) (valued (objectValues k l zs))
+unfolding withObject nextObject objectLeft written
+object-rows c long left r k l zs =
+    let o = objectsInUse c + 1 in
+    wrote-new-object c _ _ _ r o _ _ (counts-objects c c _ _ r o _ _ (unwritten c r o long) (pos o))
+    (omega arith) (omega (arith, ltb-true (objectsInUse c) objectRows left)) k l zs
 
--- the row of a new call, in cells that already hold something else of the step
+-- the next call, where a row of calls is left, in cells that already hold something else of the step
+pub call-rows : (c d : Cells) → length d ≡ allCells → rowLeft c ≡ true → (o st by to j : ℕ) (zs : List ℤ)
+    → Rows d (written d (withCall c st by to j zs)) (read d objects) (pos (nextRow c)) (nextRow c) o (valued (callValues st by to j zs)) (ofObject d o)
+unfolding withCall nextRow rowLeft written
+call-rows c d long left o st by to j zs =
+    let r = rowsInUse c + 1 in
+    wrote-new-call d _ _ _ r o _ _ (counts-calls d d _ _ r o _ _ (unwritten d r o long) (pos r))
+    (omega arith) (omega (arith, ltb-true (rowsInUse c) callRows left)) st by to j zs
+
+-- the row of a new call
 pub record NewCall (d : Cells) (r st by to j n : ℕ) : Type 0 where
   pub stage-is : stageOf d r ≡ pos st
   pub caller-is : ofCall d r caller ≡ pos by
@@ -59,105 +65,73 @@ pub record NewCall (d : Cells) (r st by to j n : ℕ) : Type 0 where
   pub method-is : ofCall d r method ≡ pos j
   pub args-is : ofCall d r args ≡ pos n
 
-module _ (c d : Cells) (long : length d ≡ allCells) (few : nextRow c ≤ callRows) (st by to j : ℕ) (zs : List ℤ)
+module _ (c d : Cells) (long : length d ≡ allCells) (left : rowLeft c ≡ true) (st by to j : ℕ) (zs : List ℤ)
     (tail : List Write) (only : AtOnly scratch tail) where
-  -- each of its first fields
-  field-new : (f : ℕ) → f < 5 → ownField f ≡ false
-      → ofCall (written (written d (withCall c st by to j zs)) tail) (nextRow c) f
-      ≡ getD (pos st ∷ pos by ∷ pos to ∷ pos j ∷ pos (length zs) ∷ pos 0 ∷ pos 0 ∷ pos 0 ∷ padded mostLocals zs) f (pos 0)
-  unfolding withCall newCall written scratch fieldIn nextRow
-  field-new f h own =
-      let r = rowsInUse c + 1 in
-      let e = written (write d calls (pos r)) (newCall r st by to j zs) in
-      let same : 0 + f ≡ f = omega arith in
-      of-call-is (written e tail) r (omega arith) few f
-      ∙ untouched scratch e tail (call r f) only own
-      ∙ ap (λ g. read e (call r g)) (sym same)
-      ∙ row-reads (call r) (λ g. refl) (write d calls (pos r)) 0 _ f (length-write d calls (pos r) ∙ long) (omega arith) (omega arith)
+  -- each of its fields that no line changes
+  field-new : (f : ℕ) → ownField f ≡ false
+      → ofCall (written (written d (withCall c st by to j zs)) tail) (nextRow c) f ≡ valued (callValues st by to j zs) f
+  unfolding scratch
+  field-new f own =
+      field-kept scratch (written d (withCall c st by to j zs)) tail (nextRow c) f only own
+      ∙ ap (λ (row : Fields). row f) (call-rows c d long left 0 st by to j zs .call)
 
   -- so the whole of what is asked of it
   pub new-call : NewCall (written (written d (withCall c st by to j zs)) tail) (nextRow c) st by to j (length zs)
   unfolding stageOf ownField
   new-call = record {
-    stage-is = field-new stage (omega arith) refl;
-    caller-is = field-new caller (omega arith) refl;
-    callee-is = field-new callee (omega arith) refl;
-    method-is = field-new method (omega arith) refl;
-    args-is = field-new args (omega arith) refl;
+    stage-is = field-new stage refl;
+    caller-is = field-new caller refl;
+    callee-is = field-new callee refl;
+    method-is = field-new method refl;
+    args-is = field-new args refl;
   }
 
--- a new object: the count, and its running label, behind a new call and what its maker stores
-module _ (c : Cells) (long : length c ≡ allCells) (few : nextObject c ≤ objectRows) (k l st by to j : ℕ) (zs : List ℤ)
+-- a new object that runs a new call, behind what its maker stores
+module _ (c : Cells) (long : length c ≡ allCells) (left : objectLeft c ≡ true) (left-calls : rowLeft c ≡ true) (k l st by to j : ℕ) (zs : List ℤ)
     (tail : List Write) (only : AtOnly scratch tail) where
-  call-in : AtOnly inCalls (withCall c st by to j [])
-  unfolding withCall newCall inCalls
-  call-in = (refl, only-row inCalls (call (nextRow c)) 0 _ (λ g h. refl))
+  -- the object, and behind it the call
+  first : Rows c (written c (withObject c k l zs)) (pos (nextObject c)) (read c calls) 0 (nextObject c) (ofCall c 0) (valued (objectValues k l zs))
+  first = object-rows c long left 0 k l zs
 
-  -- what the new call and the storing leave
-  behind : (p : Place) → scratch p ≡ false → inCalls p ≡ false
-      → read (written (written (written c (withObject c k l zs)) (withCall c st by to j [])) tail) p ≡ read (written c (withObject c k l zs)) p
-  behind p e f =
-      untouched scratch (written (written c (withObject c k l zs)) (withCall c st by to j [])) tail p only e
-      ∙ untouched inCalls (written c (withObject c k l zs)) (withCall c st by to j []) p call-in f
+  second : (let d = written c (withObject c k l zs) in
+      Rows d (written d (withCall c st by to j [])) (read d objects) (pos (nextRow c)) (nextRow c) (nextObject c) (valued (callValues st by to j [])) (ofObject d (nextObject c)))
+  second = call-rows c (written c (withObject c k l zs)) (first .length) left-calls (nextObject c) st by to j []
 
   -- the count is the new object
   pub new-count : objectsInUse (written (written (written c (withObject c k l zs)) (withCall c st by to j [])) tail) ≡ nextObject c
-  unfolding objectsInUse withObject newObject scratch inCalls inObjects nat
-  new-count =
-      ap nat (behind objects refl refl
-      ∙ reads-back inObjects c objects (pos (nextObject c)) (newObject (nextObject c) k l zs) long (omega arith)
-      (only-row inObjects (object (nextObject c)) 0 _ (λ g h. refl)) refl)
+  unfolding objectsInUse scratch nat
+  new-count = ap nat (untouched scratch _ tail objects only refl ∙ second .objects ∙ first .objects)
 
   -- and the new object runs its call
   pub new-running : ofObject (written (written (written c (withObject c k l zs)) (withCall c st by to j [])) tail) (nextObject c) runningLabel ≡ pos l
-  unfolding ofObject withObject newObject written scratch inCalls fieldIn nextObject
+  unfolding ofObject scratch
   new-running =
-      let o = objectsInUse c + 1 in
-      behind (object o runningLabel) refl refl
-      ∙ row-reads (object o) (λ g. refl) (write c objects (pos o)) 0 (pos k ∷ pos l ∷ padded mostAttributes zs) 1 (length-write c objects (pos o) ∙ long) (omega arith) (omega arith)
+      untouched scratch _ tail (object (nextObject c) runningLabel) only refl ∙ ap (λ (row : Fields). row runningLabel) (second .object ∙ first .object)
 
 -- a variable that a line stores, and the line that it goes on to
 module _ (m : Model) (c : Cells) (o l : ℕ) (at : Standing) (e : Cells) (long : length e ≡ allCells) (low : 1 ≤ l) (high : l ≤ callRows) where
-  onward-is : onward m c o l at ≡ (call l line, pos (at .at + 1)) ∷ []
-  unfolding onward
-  onward-is = to-call-is c l low high line (pos (at .at + 1))
-
   -- the line after
   pub line-reads : (ws : List Write) → ofCall (written e (ws ++ onward m c o l at)) l line ≡ pos (at .at + 1)
-  unfolding inObjects
-  line-reads ws =
-      ap (λ d. ofCall d l line) (written-append e ws (onward m c o l at) ∙ ap (written (written e ws)) onward-is)
-      ∙ of-call-is (written (written e ws) ((call l line, pos (at .at + 1)) ∷ [])) l low high line
-      ∙ reads-back inObjects (written e ws) (call l line) (pos (at .at + 1)) [] (length-written e ws ∙ long) (low, high, omega arith) tt refl
+  unfolding onward
+  line-reads ws = last-in-row e long l low high c ws line (pos (at .at + 1)) (omega arith)
 
   -- the variable
   pub stored-reads : 1 ≤ o → o ≤ objectRows → (x : Variable) → Fits x → (z : ℤ) → held (here (written e (stored c o l x z ++ onward m c o l at)) o l) x ≡ z
-  unfolding held here stored ofObject toObject inCalls onward inObjects atField fieldIn
+  unfolding held here stored onward
   stored-reads first last (Attribute i) h z =
-      ap (λ d. read d (object o (attribute i))) (written-append e ((object o (attribute i), z) ∷ []) (onward m c o l at))
-      ∙ untouched inCalls (written e ((object o (attribute i), z) ∷ [])) (onward m c o l at) (object o (attribute i)) (only-call inCalls c l line _ refl) refl
-      ∙ reads-back inCalls e (object o (attribute i)) z [] long (first, last, omega arith) tt refl
+      let a = wrote-object e e _ _ l o _ _ (unwritten e l o long) (attribute i) z first last (omega arith) in
+      let b = wrote-call e _ _ _ l o _ _ a c line (pos (at .at + 1)) low high (omega arith) in
+      ap (λ d. ofObject d o (attribute i)) (written-append e (toObject o (attribute i) z) (toCall c l line (pos (at .at + 1))))
+      ∙ ap (λ (row : Fields). row (attribute i)) (b .object)
+      ∙ put-same (attribute i) z (ofObject e o)
   stored-reads first last (Local i) h z =
-      of-call-is (written e (toCall c l (local i) z ++ onward m c o l at)) l low high (local i)
-      ∙ ap (λ d. read d (call l (local i))) (written-append e (toCall c l (local i) z) (onward m c o l at) ∙ ap (λ w. written (written e w) (onward m c o l at)) (to-call-is c l low high (local i) z))
-      ∙ untouched (atField line) (written e ((call l (local i), z) ∷ [])) (onward m c o l at) (call l (local i)) (only-call (atField line) c l line _ refl) (ne-eqb (local i) line (λ s. omega arith))
-      ∙ reads-back inObjects e (call l (local i)) z [] long (low, high, omega arith) tt refl
+      other-in-row e long l low high c (toCall c l (local i) z) line (local i) (pos (at .at + 1)) (omega arith) (λ s. omega arith)
+      ∙ last-in-row e long l low high c [] (local i) z (omega arith)
 
--- the stage that a call is moved to, and the value that it is answered with
-module _ (c e : Cells) (long : length e ≡ allCells) (l : ℕ) (low : 1 ≤ l) (high : l ≤ callRows) (tail : List Write) where
-  pub stage-reads : (sort : Place → Bool) (s : ℕ) → AtOnly sort tail → sort (call l stage) ≡ false → stageOf (written (written e (staged c l s)) tail) l ≡ pos s
-  unfolding stageOf staged inObjects
-  stage-reads sort s only h =
-      of-call-is (written (written e (toCall c l stage (pos s))) tail) l low high stage
-      ∙ untouched sort (written e (toCall c l stage (pos s))) tail (call l stage) only h
-      ∙ ap (λ w. read (written e w) (call l stage)) (to-call-is c l low high stage (pos s))
-      ∙ reads-back inObjects e (call l stage) (pos s) [] long (low, high, omega arith) tt refl
-
-  -- the value
-  pub value-reads : (sort : Place → Bool) (z : ℤ) → AtOnly sort tail → sort (call l value) ≡ false → ofCall (written (written e (toCall c l value z)) tail) l value ≡ z
-  unfolding inObjects
-  value-reads sort z only h =
-      of-call-is (written (written e (toCall c l value z)) tail) l low high value
-      ∙ untouched sort (written e (toCall c l value z)) tail (call l value) only h
-      ∙ ap (λ w. read (written e w) (call l value)) (to-call-is c l low high value z)
-      ∙ reads-back inObjects e (call l value) z [] long (low, high, omega arith) tt refl
+-- a field of a call, last written in some writes, and behind them other places alone
+pub field-reads : (c e : Cells) → length e ≡ allCells → (l : ℕ) → 1 ≤ l → l ≤ callRows → (us : List Write) (f : ℕ) (z : ℤ) → f < callCells
+    → (sort : Place → Bool) (tail : List Write) → AtOnly sort tail → sort (call l f) ≡ false → ofCall (written e ((us ++ toCall c l f z) ++ tail)) l f ≡ z
+field-reads c e long l low high us f z h sort tail only free =
+    ap (λ d. ofCall d l f) (written-append e (us ++ toCall c l f z) tail)
+    ∙ field-kept sort (written e (us ++ toCall c l f z)) tail l f only free
+    ∙ last-in-row e long l low high c us f z h

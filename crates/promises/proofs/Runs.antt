@@ -10,7 +10,7 @@ use borrow.Author.Tests.{leb-true, leb-false}
 use lib.Dec.{leb}
 use lib.IntN.{pos}
 use Rattle.whole.specs.Whole.{eqZ}
-use Rattle.layout.specs.Layout.{Cells, callRows, Write, ofCall, caller, callee, method, args, value}
+use Rattle.layout.specs.Layout.{Cells, Write, ofCall, caller, callee, method, args, value}
 use Rattle.layout.specs.Stages.{rowsInUse, stageOf, running}
 use Rattle.layout.proofs.Open.{layout-open}
 use Rattle.model.specs.Accepted.{AcceptedModel}
@@ -29,7 +29,6 @@ use Rattle.promises.proofs.Acting.{acts}
 use Rattle.promises.proofs.Acts.{Act}
 use Rattle.promises.proofs.Alive.{Alive, rows-after}
 use Rattle.promises.proofs.Amongst.{among-left, among-cases, among-about}
-use Rattle.promises.proofs.Configured.{few-calls}
 use Rattle.promises.proofs.Happened.{Happened, what-happened, answers}
 use Rattle.promises.proofs.Kept.{kept-caller, kept-callee, kept-method, kept-args, kept-value}
 use Rattle.promises.proofs.Lived.{LivedTo, Living, about-own, about-other}
@@ -104,9 +103,6 @@ module _ (m : Model) (accepted : AcceptedModel m)
     unfolding cellsAfter
     step-same l i = go (next m c choice) refl
       where
-        few : rowsInUse c ≤ callRows
-        few = few-calls m c is
-
         go : (n : Next) → next m c choice ≡ n → SameCall c (cellsAfter c (next m c choice)) l
         go (refused k) e =
             subst (λ n. SameCall c (cellsAfter c n) l) (sym e)
@@ -115,10 +111,10 @@ module _ (m : Model) (accepted : AcceptedModel m)
             let a = acts m c choice ws e in
             subst (λ n. SameCall c (cellsAfter c n) l) (sym e) (record {
               issued = let w = rows-after a is in let j = i .1 in (i .0, omega arith);
-              caller-same = kept-caller a few l (i .0) (i .1);
-              callee-same = kept-callee a few l (i .0) (i .1);
-              method-same = kept-method a few l (i .0) (i .1);
-              args-same = kept-args a few l (i .0) (i .1);
+              caller-same = kept-caller a l (i .1);
+              callee-same = kept-callee a l (i .1);
+              method-same = kept-method a l (i .1);
+              args-same = kept-args a l (i .1);
             })
 
     -- the value of a call that has returned
@@ -149,7 +145,7 @@ module _ (m : Model) (accepted : AcceptedModel m)
         go (refused k) e = ap (λ n. ofCall (cellsAfter c n) l value) e
         go (moved ws) e =
             let a = acts m c choice ws e in
-            ap (λ n. ofCall (cellsAfter c n) l value) e ∙ kept-value a (few-calls m c is) l (i .0) (i .1) (other a)
+            ap (λ n. ofCall (cellsAfter c n) l value) e ∙ kept-value a l (i .1) (other a)
 
   -- along a list of choices
   pub run-alive : (c : Cells) → isConfiguration m c ≡ true → (h : List Event) → Alive c h → (choices : List Choice)

@@ -8,7 +8,7 @@ use borrow.Author.Tests.{ne-eqb}
 use lib.IntN.{ℤ, pos}
 use Rattle.whole.specs.Lists.{totalOf}
 use Rattle.whole.specs.Whole.{eqZ, nat}
-use Rattle.layout.specs.Layout.{Cells, Place, call, callRows, Write, written, ofCall, toCall, toObject, runningLabel, caller, callee, cleared, value}
+use Rattle.layout.specs.Layout.{Cells, Place, call, callRows, Write, written, ofCall, toCall, toObject, runningLabel, stage, caller, callee, cleared, value}
 use Rattle.layout.specs.Stages.{stageOf, staged, invoked, queued, bound, running, answered, replied, taken}
 use Rattle.layout.proofs.Laws.{length-written}
 use Rattle.model.specs.Accepted.{AcceptedModel}
@@ -16,23 +16,25 @@ use Rattle.model.specs.Model.{Model}
 use Rattle.cells.specs.Configuration.{isConfiguration}
 use Rattle.cells.specs.Standing.{Standing}
 use Rattle.cells.proofs.Configured.{configured}
+use Rattle.cells.proofs.Writes.{written-append}
 use Rattle.rules.specs.declared.Choice.{Choice}
 use Rattle.rules.specs.Events.{Event, issuing, spawning, arriving, binding, returning, delivering, taking}
 use Rattle.rules.specs.Exec.{stored, nextObject, nextRow, withObject, withCall, onward, suspended, freed, stageReturned}
 use Rattle.rules.specs.Kinds.{Kind}
 use Rattle.rules.specs.Messages.{started}
 use Rattle.rules.proofs.Messaging.{label-row}
+use Rattle.rules.proofs.Sparing.{last-in-row}
 use Rattle.promises.specs.Histories.{subject, about}
 use Rattle.promises.specs.Lives.{Issued, issuedBy}
 use Rattle.promises.proofs.Acts.{Act, Chosen, goes, jumps, stores, crosses, creates, spawns, issues, takes, suspends, returns, arrives, binds, starts, delivers}
 use Rattle.promises.proofs.Alive.{Alive, staged-as, turned, moves-alive, still-alive, grows-alive}
-use Rattle.promises.proofs.Configured.{all-cells, few-calls}
+use Rattle.promises.proofs.Configured.{all-cells}
 use Rattle.promises.proofs.Kept.{kept-caller}
 use Rattle.promises.proofs.Lived.{LivedTo, Living, about-own, about-other, on-arriving, on-binding, on-delivering, on-taking, on-returning, on-ending, on-suspending, on-starting}
-use Rattle.promises.proofs.Rows.{new-call, stage-reads, unstaged}
+use Rattle.promises.proofs.Rows.{new-call, field-reads, unstaged}
 use Rattle.promises.proofs.Spared.{movedBy, scratch, ownField, tail-scratch}
-use Rattle.promises.proofs.Subjects.{row-left, replied-for, running-issued, running-stage, spawn-label, issue-label, take-label}
-use Rattle.promises.proofs.Untouched.{AtOnly, written-append, only-append, only-call, only-object}
+use Rattle.promises.proofs.Subjects.{replied-for, running-issued, running-stage, spawn-label, issue-label, take-label}
+use Rattle.promises.proofs.Untouched.{AtOnly, only-append, only-call, only-object}
 
 -- one event of an issued label is about no other
 other-than : (c : Cells) (e : Event) (k : ℕ) → subject e ≡ k → Issued c k → (l : ℕ) → (Issued c l → l ≡ k → ⊥) → about l (e ∷ []) ≡ []
@@ -52,7 +54,7 @@ module _ {m : Model} {c : Cells} {choice : Choice} {ws : List Write} {es : List 
       (λ l n. ap (about l) one ∙ other-than c e (movedBy a) sub i l n)
       (λ i life live.
       subst (λ u. Living (written c ws) (movedBy a) (life ++ u)) (sym (ap (about (movedBy a)) one ∙ about-own e (movedBy a) sub))
-      (turned c (written c ws) (movedBy a) s t life (e ∷ []) before after (kept-caller a (few-calls m c is) (movedBy a) (i .0) (i .1)) (on life) live))
+      (turned c (written c ws) (movedBy a) s t life (e ∷ []) before after (kept-caller a (movedBy a) (i .1)) (on life) live))
 
   -- by none
   by-none : es ≡ []
@@ -64,7 +66,7 @@ module _ {m : Model} {c : Cells} {choice : Choice} {ws : List Write} {es : List 
       moves-alive a is h alive (ap (totalOf issuedBy) none) (λ l n. ap (about l) none)
       (λ i life live.
       subst (λ u. Living (written c ws) (movedBy a) (life ++ u)) (sym (ap (about (movedBy a)) none))
-      (turned c (written c ws) (movedBy a) s t life [] before after (kept-caller a (few-calls m c is) (movedBy a) (i .0) (i .1)) (on life) live))
+      (turned c (written c ws) (movedBy a) s t life [] before after (kept-caller a (movedBy a) (i .1)) (on life) live))
 
 -- the stage after each move
 module _ (m : Model) (c : Cells) (is : isConfiguration m c ≡ true) (l : ℕ) (i : Issued c l) where
@@ -73,13 +75,14 @@ module _ (m : Model) (c : Cells) (is : isConfiguration m c ≡ true) (l : ℕ) (
 
   -- where the stage is all that is written
   stage-now : (s : ℕ) → stageOf (written c (staged c l s)) l ≡ pos s
-  unfolding written unstaged
-  stage-now s = stage-reads c c (all-cells m c is) l (i .0) few [] unstaged s tt refl
+  unfolding stageOf staged
+  stage-now s = last-in-row c (all-cells m c is) l (i .0) few c [] stage (pos s) (omega arith)
 
-  -- where other places are written behind it
-  stage-then : (s : ℕ) (sort : Place → Bool) (tail : List Write) → AtOnly sort tail → sort (call l 0) ≡ false → stageOf (written c (staged c l s ++ tail)) l ≡ pos s
-  stage-then s sort tail only e =
-      ap (λ d. stageOf d l) (written-append c (staged c l s) tail) ∙ stage-reads c c (all-cells m c is) l (i .0) few tail sort s only e
+  -- where others are written before it, and other places behind it
+  stage-then : (us : List Write) (s : ℕ) (sort : Place → Bool) (tail : List Write) → AtOnly sort tail → sort (call l stage) ≡ false
+      → stageOf (written c ((us ++ staged c l s) ++ tail)) l ≡ pos s
+  unfolding stageOf staged
+  stage-then us s sort tail only e = field-reads c c (all-cells m c is) l (i .0) few us stage (pos s) (omega arith) sort tail only e
 
   -- of an `await` that is not enabled
   stage-suspended : (o : ℕ) (at : Standing) → stageOf (written c (suspended m c o l at)) l ≡ pos bound
@@ -88,21 +91,18 @@ module _ (m : Model) (c : Cells) (is : isConfiguration m c ≡ true) (l : ℕ) (
       let p = toCall c l cleared (pos 1) in
       let q = toObject o runningLabel (pos 0) in
       ap (λ w. stageOf (written c w) l) (append-assoc (staged c l bound) p q)
-      ∙ stage-then bound unstaged (p ++ q) (only-append unstaged p q (only-call unstaged c l cleared (pos 1) refl) (only-object unstaged o runningLabel (pos 0) refl)) refl
+      ∙ stage-then [] bound unstaged (p ++ q) (only-append unstaged p q (only-call unstaged c l cleared (pos 1) refl) (only-object unstaged o runningLabel (pos 0) refl)) refl
 
   -- of a start
   stage-started : (o : ℕ) → stageOf (written c (started c o l)) l ≡ pos running
   unfolding started unstaged
-  stage-started o = stage-then running unstaged (toObject o runningLabel (pos l)) (only-object unstaged o runningLabel (pos l) refl) refl
+  stage-started o = stage-then [] running unstaged (toObject o runningLabel (pos l)) (only-object unstaged o runningLabel (pos l) refl) refl
 
   -- of a `return`
   stage-returned : (o : ℕ) (at : Standing) (z : ℤ) (s : ℕ) → stageOf (written c (toCall c l value z ++ staged c l s ++ freed m c o l at)) l ≡ pos s
   unfolding freed unstaged
   stage-returned o at z s =
-      let p = toCall c l value z in
-      let q = toObject o runningLabel (pos 0) in
-      ap (λ d. stageOf d l) (written-append c (p ++ staged c l s) q ∙ ap (λ d. written d q) (written-append c p (staged c l s)))
-      ∙ stage-reads c (written c p) (length-written c p ∙ all-cells m c is) l (i .0) few q unstaged s (only-object unstaged o runningLabel (pos 0) refl) refl
+      stage-then (toCall c l value z) s unstaged (toObject o runningLabel (pos 0)) (only-object unstaged o runningLabel (pos 0) refl) refl
 
 -- returning, by whether there is a caller
 returned-lived : (m : Model) (c : Cells) (o l : ℕ) (at : Standing) (life : List Event) → LivedTo l (eqZ (ofCall c l caller) (pos 0)) running life
@@ -145,8 +145,8 @@ module _ (m : Model) (accepted : AcceptedModel m) (c : Cells) (is : isConfigurat
       let p = withObject c k (nextRow c) zs in
       let q = withCall c running 0 (nextObject c) 0 [] in
       let t = stored c o l x (pos (nextObject c)) ++ onward m c o l at in
-      let label = spawn-label m accepted c is choice o l at r x k zs a d e .0 in
-      let new = new-call c (written c p) (length-written c p ∙ all-cells m c is) (row-left c b) running 0 (nextObject c) 0 [] t (tail-scratch m c o l at x (pos (nextObject c))) in
+      let label = spawn-label m accepted c is choice o l at r x k zs a b d e .0 in
+      let new = new-call c (written c p) (length-written c p ∙ all-cells m c is) b running 0 (nextObject c) 0 [] t (tail-scratch m c o l at x (pos (nextObject c))) in
       let same : written c ((p ++ q) ++ t) ≡ written (written (written c p) q) t = written-append c (p ++ q) t ∙ ap (λ d. written d t) (written-append c p q) in
       grows-alive (spawns o l at r x k es zs s a b d e) is h alive (spawning _) refl refl label refl
       (subst (λ i. Living (written c ((p ++ q) ++ t)) (nextRow c) (spawning i ∷ [])) (sym label)
@@ -156,7 +156,7 @@ module _ (m : Model) (accepted : AcceptedModel m) (c : Cells) (is : isConfigurat
       let q = withCall c invoked o to j zs in
       let t = stored c o l x (pos (nextRow c)) ++ onward m c o l at in
       let label = issue-label m accepted c is choice o l at r x e j es to zs s d f in
-      let new = new-call c c (all-cells m c is) (row-left c a) invoked o to j zs t (tail-scratch m c o l at x (pos (nextRow c))) in
+      let new = new-call c c (all-cells m c is) a invoked o to j zs t (tail-scratch m c o l at x (pos (nextRow c))) in
       grows-alive (issues o l at r x e j es z to zs s v g n a d f) is h alive (issuing _) refl refl label refl
       (subst (λ i. Living (written c (q ++ t)) (nextRow c) (issuing i ∷ [])) (sym label)
       (subst (λ d. Living d (nextRow c) (issuing (nextRow c) ∷ [])) (sym (written-append c q t))
@@ -165,7 +165,7 @@ module _ (m : Model) (accepted : AcceptedModel m) (c : Cells) (is : isConfigurat
       let u = replied-for c o _ from g in
       let i : Issued c from = (u .low, u .high) in
       by-event (takes o l at r x y from s g d f) is h alive i replied taken (u .stage-is)
-      (stage-then m c is from i taken scratch (stored c o l y (ofCall c from value) ++ onward m c o l at) (tail-scratch m c o l at y (ofCall c from value)) refl)
+      (stage-then m c is from i [] taken scratch (stored c o l y (ofCall c from value) ++ onward m c o l at) (tail-scratch m c o l at y (ofCall c from value)) refl)
       (taking from) (take-label m accepted c is choice o l at r x y from g d f) refl refl
       (λ life. on-taking from life (eqZ (ofCall c from caller) (pos 0)))
   act-alive (suspends o l at r) =

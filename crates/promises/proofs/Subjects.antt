@@ -6,7 +6,7 @@ use mathlib.Core.List.{List, [], _∷_, _++_, append-assoc}
 use mathlib.Core.Option.{Option, none, some}
 use mathlib.Core.Path.{_≡_, refl, sym, ap, subst, _∙_}
 use native.Mathlib.Omega.{arith}
-use borrow.Author.Tests.{ltb-true, ne-eqb}
+use borrow.Author.Tests.{ne-eqb}
 use lib.IntN.{ℤ, pos}
 use lib.ListN.{length}
 use Rattle.whole.specs.Plain.{onlyIf}
@@ -26,6 +26,7 @@ use Rattle.cells.specs.Configuration.{isConfiguration}
 use Rattle.cells.specs.Standing.{Standing}
 use Rattle.cells.proofs.Tested.{equals}
 use Rattle.cells.proofs.Configured.{configured}
+use Rattle.cells.proofs.Writes.{written-append}
 use Rattle.rules.specs.declared.Choice.{Choice}
 use Rattle.rules.specs.Events as Events
 use Rattle.rules.specs.Events.{taking}
@@ -40,17 +41,6 @@ use Rattle.promises.proofs.Configured.{all-cells, few-objects}
 use Rattle.promises.proofs.Rows.{new-count, new-running, stored-reads, line-reads}
 use Rattle.promises.proofs.Spared.{tail-scratch}
 use Rattle.promises.proofs.Standings.{Fits, stood-at, stands-within}
-use Rattle.promises.proofs.Untouched.{written-append}
-
--- a row of objects that is left
-pub object-left : (c : Cells) → objectLeft c ≡ true → nextObject c ≤ objectRows
-unfolding objectLeft nextObject
-object-left c e = omega (arith, ltb-true (objectsInUse c) objectRows e)
-
--- of calls
-pub row-left : (c : Cells) → rowLeft c ≡ true → nextRow c ≤ callRows
-unfolding rowLeft nextRow
-row-left c e = omega (arith, ltb-true (rowsInUse c) callRows e)
 
 -- "a label of stage 6 whose caller is this object"
 pub record Replied (c : Cells) (o : ℕ) (z : ℤ) (from : ℕ) : Type 0 where
@@ -112,11 +102,11 @@ module _ (m : Model) (accepted : AcceptedModel m) (c : Cells) (is : isConfigurat
       stored-reads m c o l at e (long ∙ all-cells m c is) (running-issued .0) label-few (r .low) object-few x fits z
 
   -- `new` of a class with run 1
-  pub spawn-label : (x : Variable) (k : ℕ) (zs : List ℤ) → objectLeft c ≡ true → (d : Cells)
+  pub spawn-label : (x : Variable) (k : ℕ) (zs : List ℤ) → objectLeft c ≡ true → rowLeft c ≡ true → (d : Cells)
       → d ≡ written c ((withObject c k (nextRow c) zs ++ withCall c running 0 (nextObject c) 0 []) ++ (stored c o l x (pos (nextObject c)) ++ onward m c o l at))
       → (nat (ofObject d (objectsInUse d) runningLabel) ≡ nextRow c) × (objectsInUse d ≡ nextObject c)
   unfolding nat
-  spawn-label x k zs left d e =
+  spawn-label x k zs left left-calls d e =
       let p = withObject c k (nextRow c) zs in
       let q = withCall c running 0 (nextObject c) 0 [] in
       let t = stored c o l x (pos (nextObject c)) ++ onward m c o l at in
@@ -124,9 +114,9 @@ module _ (m : Model) (accepted : AcceptedModel m) (c : Cells) (is : isConfigurat
       let f : d ≡ written (written (written c p) q) t = e ∙ written-append c (p ++ q) t ∙ ap (λ d. written d t) (written-append c p q) in
       let only = tail-scratch m c o l at x (pos (nextObject c)) in
       let n : objectsInUse d ≡ nextObject c =
-      ap objectsInUse f ∙ new-count c long (object-left c left) k (nextRow c) running 0 (nextObject c) 0 zs t only in
+      ap objectsInUse f ∙ new-count c long left left-calls k (nextRow c) running 0 (nextObject c) 0 zs t only in
       let g : ofObject d (nextObject c) runningLabel ≡ pos (nextRow c) =
-      ap (λ d. ofObject d (nextObject c) runningLabel) f ∙ new-running c long (object-left c left) k (nextRow c) running 0 (nextObject c) 0 zs t only in
+      ap (λ d. ofObject d (nextObject c) runningLabel) f ∙ new-running c long left left-calls k (nextRow c) running 0 (nextObject c) 0 zs t only in
       (ap (λ i. nat (ofObject d i runningLabel)) n ∙ ap nat g, n)
 
   -- `call`
