@@ -1,5 +1,5 @@
 -- Every label has lived as its stage says, and what is not issued has not lived: each step keeps that. Assumes nothing.
-use Prim.Native.Nat.{ℕ, _+_, _≤_}
+use Prim.Native.Nat.{ℕ, _+_}
 use mathlib.Core.Bool.{Bool, true, false}
 use mathlib.Core.List.{List, [], _∷_, _++_, append-nil}
 use mathlib.Core.Path.{_≡_, refl, sym, ap, ap₂, subst, _∙_}
@@ -10,10 +10,9 @@ use lib.IntN.{pos}
 use Rattle.whole.specs.Lists.{totalOf}
 use Rattle.whole.specs.Whole.{eqZ, nat}
 use Rattle.layout.specs.Layout.{Cells, Write, written, ofCall, caller}
-use Rattle.layout.specs.Stages.{rowsInUse, stageOf, inStage}
+use Rattle.layout.specs.Stages.{rowsInUse, stageOf}
 use Rattle.model.specs.Model.{Model}
 use Rattle.cells.specs.Configuration.{isConfiguration}
-use Rattle.cells.proofs.Tested.{equals}
 use Rattle.rules.specs.declared.Choice.{Choice}
 use Rattle.rules.specs.Events.{Event}
 use Rattle.rules.specs.Exec.{nextRow}
@@ -38,11 +37,6 @@ by-label {A} l k same other = go (eqb l k) refl
     go : (b : Bool) → eqb l k ≡ b → A
     go true e = same (eqb-true l k e)
     go false e = other (eqb-false l k e)
-
--- a stage by its test
-pub staged-as : (c : Cells) (l s : ℕ) → inStage c l s ≡ true → stageOf c l ≡ pos s
-unfolding inStage
-staged-as c l s e = equals (stageOf c l) s e
 
 -- a call that goes from a stage to a stage
 pub turned : (c d : Cells) (k s t : ℕ) (life es : List Event) → stageOf c k ≡ pos s → stageOf d k ≡ pos t → ofCall d k caller ≡ ofCall c k caller

@@ -7,7 +7,7 @@ use native.Mathlib.Omega.{arith}
 use lib.IntN.{pos}
 use lib.ListN.{length}
 use Rattle.whole.specs.Whole.{nat}
-use Rattle.layout.specs.Layout.{Cells, allCells, objectRows, read, calls, ofObject, ofCall, runningLabel, callee}
+use Rattle.layout.specs.Layout.{Cells, allCells, read, calls, ofObject, ofCall, runningLabel, callee}
 use Rattle.layout.specs.Stages.{running, objectsInUse, rowsInUse, stageOf}
 use Rattle.model.specs.Model.{Model}
 use Rattle.cells.specs.Configuration.{isConfiguration}
@@ -20,11 +20,6 @@ module _ (m : Model) (c : Cells) (is : isConfiguration m c ≡ true) where
   -- 2,370 cells
   pub all-cells : length c ≡ allCells
   all-cells = configured m c is .length
-
-  -- at most 32 objects
-  pub few-objects : objectsInUse c ≤ objectRows
-  unfolding objectsInUse
-  few-objects = configured m c is .objects .most
 
   -- the count of calls is a natural number
   pub calls-counted : read c calls ≡ pos (rowsInUse c)

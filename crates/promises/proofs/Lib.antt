@@ -15,7 +15,6 @@ pub mod Open
 pub mod Rows
 pub mod Runs
 pub mod Spared
-pub mod Standings
 pub mod StaysAlive
 pub mod Subjects
 pub mod Untouched

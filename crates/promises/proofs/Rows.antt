@@ -3,7 +3,7 @@
 use Prim.Native.Nat.{ℕ, _+_, _≤_, _<_}
 use mathlib.Core.Bool.{Bool, true, false}
 use mathlib.Core.List.{List, [], _++_}
-use mathlib.Core.Path.{_≡_, refl, sym, ap, _∙_}
+use mathlib.Core.Path.{_≡_, refl, ap, _∙_}
 use native.Mathlib.Omega.{arith}
 use borrow.Author.Tests.{ltb-true}
 use lib.Dec.{leb, eqb}
@@ -20,11 +20,10 @@ use Rattle.cells.specs.Standing.{Standing}
 use Rattle.cells.proofs.Facts.{Fields}
 use Rattle.cells.proofs.NewRows.{objectValues, callValues, wrote-new-object, wrote-new-call}
 use Rattle.cells.proofs.Rows.{Rows, unwritten, valued, counts-objects, counts-calls, wrote-call, wrote-object}
-use Rattle.cells.proofs.Writes.{put-same, written-append, object-read}
+use Rattle.cells.proofs.Writes.{put-same, written-append}
 use Rattle.rules.specs.Exec.{here, stored, nextObject, nextRow, objectLeft, rowLeft, withObject, withCall, onward}
 use Rattle.rules.proofs.Sparing.{last-in-row, other-in-row}
 use Rattle.promises.proofs.Spared.{scratch, ownField}
-use Rattle.promises.proofs.Standings.{Fits}
 use Rattle.promises.proofs.Untouched.{AtOnly, untouched, field-kept}
 
 -- places other than stages
@@ -38,6 +37,11 @@ unfoldable pub valueless : Place → Bool
 valueless (header i) = true
 valueless (object o f) = true
 valueless (call r f) = eqb f stage
+
+-- a variable that a row has
+abbrev pub Fits : Variable → Type 0
+Fits (Attribute i) = i < mostAttributes
+Fits (Local i) = i < mostLocals
 
 -- the next object, where a row of objects is left
 pub object-rows : (c : Cells) → length c ≡ allCells → objectLeft c ≡ true → (r k l : ℕ) (zs : List ℤ)

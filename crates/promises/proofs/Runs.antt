@@ -1,6 +1,6 @@
 -- What holds along a whole run: configurations, lives, and the rows of calls that were issued. Assumes nothing; that a step keeps a configuration is a
 -- parameter.
-use Prim.Native.Nat.{ℕ, _≤_}
+use Prim.Native.Nat.{ℕ}
 use mathlib.Core.Bool.{Bool, true, false}
 use mathlib.Core.List.{List, [], _∷_, _++_, append-nil, append-assoc}
 use mathlib.Core.Logic.{_⊎_, inl, inr}

@@ -15,6 +15,7 @@ use Rattle.terms.specs.declared.Variable.{Variable}
 use Rattle.terms.specs.declared.Variable.the-variants.{Attribute, Local}
 use Rattle.model.specs.Model.{Model}
 use Rattle.cells.specs.Standing.{Standing}
+use Rattle.cells.proofs.Tested.{one-of}
 use Rattle.rules.specs.declared.Choice.{Choice}
 use Rattle.rules.specs.Events.{Event}
 use Rattle.rules.specs.Exec.{stored, nextObject, nextRow, withObject, withCall, onward, jumped, crossed, suspended, freed, stageReturned}
@@ -54,15 +55,10 @@ or-left : (a b : Bool) → a ≡ true → a || b ≡ true
 or-left true b e = refl
 or-left false b e = cc
 
--- and so is the other
-or-right : (a b : Bool) → b ≡ true → a || b ≡ true
-or-right true b e = refl
-or-right false b e = e
-
 -- a local and an attribute
 local-own : (i : ℕ) → ownField (local i) ≡ true
 unfolding ownField
-local-own i = or-right (eqb (8 + i) line || eqb (8 + i) cleared) (leb 8 (8 + i)) (le-leb 8 (8 + i) (omega arith))
+local-own i = one-of (eqb (8 + i) line || eqb (8 + i) cleared) (leb 8 (8 + i)) (λ _. le-leb 8 (8 + i) (omega arith))
 
 -- cleared is a field of its own call
 pub cleared-own : (l : ℕ) → scratch (call l cleared) ≡ true
@@ -101,7 +97,7 @@ module _ (n s v : ℕ) where
   unfolding scratch sparing
   scratch-spares (header i) e = refl
   scratch-spares (object o f) e = refl
-  scratch-spares (call r f) e = or-left (ltb n r || ownField f) _ (or-right (ltb n r) (ownField f) e)
+  scratch-spares (call r f) e = or-left (ltb n r || ownField f) _ (one-of (ltb n r) (ownField f) (λ _. e))
 
   -- and so do writes there alone
   spares : (ws : List Write) → AtOnly scratch ws → AtOnly (sparing n s v) ws
@@ -133,14 +129,14 @@ module _ (n s v : ℕ) (c : Cells) where
   unfolding staged sparing
   staged-spares i =
       only-call (sparing n s v) c s stage (pos i)
-      (or-right (ltb n s || ownField stage) _ (or-left (eqb s s) _ (eq-eqb s s refl)))
+      (one-of (ltb n s || ownField stage) _ (λ _. or-left (eqb s s) _ (eq-eqb s s refl)))
 
   -- its value
   value-spares : (z : ℤ) → AtOnly (sparing n s v) (toCall c v value z)
   unfolding sparing
   value-spares z =
       only-call (sparing n s v) c v value z
-      (or-right (ltb n v || ownField value) _ (or-right (eqb value stage && eqb v s) _ (eq-eqb v v refl)))
+      (one-of (ltb n v || ownField value) _ (λ _. one-of (eqb value stage && eqb v s) _ (λ _. eq-eqb v v refl)))
 
 -- new rows
 module _ (s v : ℕ) (c : Cells) where

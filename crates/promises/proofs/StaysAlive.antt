@@ -16,6 +16,7 @@ use Rattle.model.specs.Model.{Model}
 use Rattle.cells.specs.Configuration.{isConfiguration}
 use Rattle.cells.specs.Standing.{Standing}
 use Rattle.cells.proofs.Configured.{configured}
+use Rattle.cells.proofs.FromTest.{stage-is}
 use Rattle.cells.proofs.Writes.{written-append}
 use Rattle.rules.specs.declared.Choice.{Choice}
 use Rattle.rules.specs.Events.{Event, issuing, spawning, arriving, binding, returning, delivering, taking}
@@ -27,7 +28,7 @@ use Rattle.rules.proofs.Sparing.{last-in-row}
 use Rattle.promises.specs.Histories.{subject, about}
 use Rattle.promises.specs.Lives.{Issued, issuedBy}
 use Rattle.promises.proofs.Acts.{Act, Chosen, goes, jumps, stores, crosses, creates, spawns, issues, takes, suspends, returns, arrives, binds, starts, delivers}
-use Rattle.promises.proofs.Alive.{Alive, staged-as, turned, moves-alive, still-alive, grows-alive}
+use Rattle.promises.proofs.Alive.{Alive, turned, moves-alive, still-alive, grows-alive}
 use Rattle.promises.proofs.Configured.{all-cells}
 use Rattle.promises.proofs.Kept.{kept-caller}
 use Rattle.promises.proofs.Lived.{LivedTo, Living, about-own, about-other, on-arriving, on-binding, on-delivering, on-taking, on-returning, on-ending, on-suspending, on-starting}
@@ -135,7 +136,7 @@ module _ (m : Model) (accepted : AcceptedModel m) (c : Cells) (is : isConfigurat
 
   -- every case
   pub act-alive : {ws : List Write} {es : List Event} → Act m c choice ws es → Alive (written c ws) (h ++ es)
-  unfolding movedBy subject issuedBy scratch ownField
+  unfolding movedBy subject issuedBy scratch ownField stageOf
   act-alive (goes o l at r) = still-alive (goes o l at r) is h alive refl refl
   act-alive (jumps o l at r) = still-alive (jumps o l at r) is h alive refl refl
   act-alive (stores o l at r x z) = still-alive (stores o l at r x z) is h alive refl refl
@@ -177,14 +178,14 @@ module _ (m : Model) (accepted : AcceptedModel m) (c : Cells) (is : isConfigurat
       by-event (returns o l at r e z s v) is h alive i running (stageReturned m c o l at) (running-stage m accepted c is choice o l at r)
       (stage-returned m c is l i o at z (stageReturned m c o l at)) (returning l) refl refl refl (returned-lived m c o l at)
   act-alive (arrives l w s) =
-      by-event (arrives l w s) is h alive (chosen-issued w) invoked queued (staged-as c l invoked s) (stage-now m c is l (chosen-issued w) queued)
+      by-event (arrives l w s) is h alive (chosen-issued w) invoked queued (stage-is m c l invoked s) (stage-now m c is l (chosen-issued w) queued)
       (arriving l) refl refl refl (λ life. on-arriving l life (eqZ (ofCall c l caller) (pos 0)))
   act-alive (binds l w s) =
-      by-event (binds l w s) is h alive (chosen-issued w) queued bound (staged-as c l queued s) (stage-now m c is l (chosen-issued w) bound)
+      by-event (binds l w s) is h alive (chosen-issued w) queued bound (stage-is m c l queued s) (stage-now m c is l (chosen-issued w) bound)
       (binding l) refl refl refl (λ life. on-binding l life (eqZ (ofCall c l caller) (pos 0)))
   act-alive (starts l w s) =
-      by-none (starts l w s) is h alive (chosen-issued w) bound running (staged-as c l bound s) (stage-started m c is l (chosen-issued w) (nat (ofCall c l callee))) refl
+      by-none (starts l w s) is h alive (chosen-issued w) bound running (stage-is m c l bound s) (stage-started m c is l (chosen-issued w) (nat (ofCall c l callee))) refl
       (λ life. on-starting l life (eqZ (ofCall c l caller) (pos 0)))
   act-alive (delivers l w s) =
-      by-event (delivers l w s) is h alive (chosen-issued w) answered replied (staged-as c l answered s) (stage-now m c is l (chosen-issued w) replied)
+      by-event (delivers l w s) is h alive (chosen-issued w) answered replied (stage-is m c l answered s) (stage-now m c is l (chosen-issued w) replied)
       (delivering l) refl refl refl (λ life. on-delivering l life (eqZ (ofCall c l caller) (pos 0)))

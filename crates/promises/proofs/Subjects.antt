@@ -12,19 +12,22 @@ use lib.ListN.{length}
 use Rattle.whole.specs.Plain.{onlyIf}
 use Rattle.whole.specs.Whole.{eqZ, nat}
 use Rattle.whole.proofs.Both.{both-left, both-right}
-use Rattle.layout.specs.Layout.{Cells, objectRows, callRows, written, ofObject, ofCall, runningLabel, caller, line, value}
+use Rattle.layout.specs.Layout.{Cells, callRows, written, ofObject, ofCall, runningLabel, caller, line, value}
 use Rattle.layout.specs.Stages.{running, invoked, replied, taken, objectsInUse, rowsInUse, labelOf, stageOf, inStage, isReply, replyFor, staged}
 use Rattle.layout.proofs.Laws.{length-written}
+use Rattle.terms.specs.declared.Limits.{Limits}
 use Rattle.terms.specs.declared.Variable.{Variable}
+use Rattle.terms.specs.declared.Variable.the-variants.{Attribute, Local}
 use Rattle.terms.specs.Trees.{Expression}
 use Rattle.terms.specs.Values.{held}
+use Rattle.terms.specs.Within.{VariableWithin}
 use Rattle.code.specs.Statements.{call, get}
 use Rattle.code.specs.Within.{CodeWithin}
 use Rattle.model.specs.Accepted.{AcceptedModel}
 use Rattle.model.specs.Model.{Model}
 use Rattle.cells.specs.Configuration.{isConfiguration}
 use Rattle.cells.specs.Standing.{Standing}
-use Rattle.cells.proofs.Tested.{equals}
+use Rattle.cells.proofs.Tested.{no-some, equals}
 use Rattle.cells.proofs.Configured.{configured}
 use Rattle.cells.proofs.Writes.{written-append}
 use Rattle.rules.specs.declared.Choice.{Choice}
@@ -32,15 +35,16 @@ use Rattle.rules.specs.Events as Events
 use Rattle.rules.specs.Events.{taking}
 use Rattle.rules.specs.Exec.{here, stored, nextObject, nextRow, objectLeft, rowLeft, withObject, withCall, onward}
 use Rattle.rules.proofs.Chosen.{up-to-some}
+use Rattle.rules.proofs.Executing.{within, few-attrs, few-locals}
+use Rattle.rules.proofs.Leaving.{object-row}
 use Rattle.rules.proofs.Messaging.{label-row}
-use Rattle.rules.proofs.Performing.{Performing, performing}
+use Rattle.rules.proofs.Performing.{Performing, performing, standing, stands-there}
 use Rattle.promises.specs.Lives.{Issued}
 use Rattle.promises.proofs.Acting.{up-to-is}
 use Rattle.promises.proofs.Acts.{Running}
-use Rattle.promises.proofs.Configured.{all-cells, few-objects}
-use Rattle.promises.proofs.Rows.{new-count, new-running, stored-reads, line-reads}
+use Rattle.promises.proofs.Configured.{all-cells}
+use Rattle.promises.proofs.Rows.{Fits, new-count, new-running, stored-reads, line-reads}
 use Rattle.promises.proofs.Spared.{tail-scratch}
-use Rattle.promises.proofs.Standings.{Fits, stood-at, stands-within}
 
 -- "a label of stage 6 whose caller is this object"
 pub record Replied (c : Cells) (o : ℕ) (z : ℤ) (from : ℕ) : Type 0 where
@@ -66,10 +70,10 @@ replied-for c o z from e = by-label (labelOf c z) refl
           stage-is = equals (stageOf c l) replied (both-left (inStage c l replied) (eqZ (ofCall c l caller) (pos o)) r);
           caller-is = equals (ofCall c l caller) o (both-right (inStage c l replied) (eqZ (ofCall c l caller) (pos o)) r);
         })
-    by-reply l h false r e = absurd (let n : _≡_ {A = ℕ} 0 1 = cc (rw (h, replyFor, r) at e) in omega arith)
+    by-reply l h false r e = absurd (no-some (rw (h, replyFor, r) at e))
 
     by-label : (f : Option ℕ) → labelOf c z ≡ f → Replied c o z from
-    by-label none h = absurd (let n : _≡_ {A = ℕ} 0 1 = cc (rw (h, replyFor) at e) in omega arith)
+    by-label none h = absurd (no-some (rw (h, replyFor) at e))
     by-label (some l) h = by-reply l h (isReply c o l) refl e
 
 module _ (m : Model) (accepted : AcceptedModel m) (c : Cells) (is : isConfiguration m c ≡ true) (choice : Choice) (o l : ℕ) (at : Standing)
@@ -77,6 +81,24 @@ module _ (m : Model) (accepted : AcceptedModel m) (c : Cells) (is : isConfigurat
   -- the object's running call in its configuration
   running-call : Performing m c o l
   running-call = performing m c o l (configured m c is) (r .low) (r .high) (r .runs)
+
+  -- it stands where it was found
+  stands-at : standing running-call ≡ at
+  stands-at = let e : some (standing running-call) ≡ some at = sym (stands-there m c o l running-call) ∙ r .stands in cc
+
+  -- how many variables there are at its line
+  abbrev limits : Limits
+  limits = let s = running-call .bound .stands in record { attrs = s .class .attrs; locals = s .body .locals }
+
+  -- its line is as an accepted text says
+  line-within : CodeWithin limits (length m) (at .statement)
+  line-within = subst (λ (s : Standing). CodeWithin limits (length m) (s .statement)) stands-at (within m accepted c o l running-call)
+
+  -- so a variable of it is one that a row has
+  fits : (x : Variable) → VariableWithin limits x → Fits x
+  unfolding VariableWithin
+  fits (Attribute i) h = let few = few-attrs m accepted c o l running-call in omega arith
+  fits (Local i) h = let few = few-locals m accepted c o l running-call in omega arith
 
   -- it is an issued one
   pub running-issued : Issued c l
@@ -91,15 +113,11 @@ module _ (m : Model) (accepted : AcceptedModel m) (c : Cells) (is : isConfigurat
   label-few : l ≤ callRows
   label-few = label-row m c (configured m c is) l (running-issued .0) (running-issued .1)
 
-  -- its object has a row
-  object-few : o ≤ objectRows
-  object-few = let w = few-objects m c is in let h = r .high in omega arith
-
   -- what it stores is there, in whatever cells it is written to
   pub stores-it : (e : Cells) → length e ≡ length c → (x : Variable) → Fits x → (z : ℤ)
       → held (here (written e (stored c o l x z ++ onward m c o l at)) o l) x ≡ z
   stores-it e long x fits z =
-      stored-reads m c o l at e (long ∙ all-cells m c is) (running-issued .0) label-few (r .low) object-few x fits z
+      stored-reads m c o l at e (long ∙ all-cells m c is) (running-issued .0) label-few (r .low) (object-row m c o l running-call) x fits z
 
   -- `new` of a class with run 1
   pub spawn-label : (x : Variable) (k : ℕ) (zs : List ℤ) → objectLeft c ≡ true → rowLeft c ≡ true → (d : Cells)
@@ -126,10 +144,9 @@ module _ (m : Model) (accepted : AcceptedModel m) (c : Cells) (is : isConfigurat
   issue-label x ex j es to zs s d e =
       let q = withCall c invoked o to j zs in
       let t = stored c o l x (pos (nextRow c)) ++ onward m c o l at in
-      let w = stands-within accepted c l at (r .stands) in
-      let code : CodeWithin (w .0) (length m) (call x ex j es) = subst (CodeWithin (w .0) (length m)) s (w .1) in
+      let code : CodeWithin limits (length m) (call x ex j es) = subst (CodeWithin limits (length m)) s line-within in
       ap (λ d. nat (held (here d o l) x)) (e ∙ written-append c q t)
-      ∙ ap nat (stores-it (written c q) (length-written c q) x (w .2 x (code .0)) (pos (nextRow c)))
+      ∙ ap nat (stores-it (written c q) (length-written c q) x (fits x (code .0)) (pos (nextRow c)))
 
   -- `get`: the label is the reply's, the line goes on, so that it is taken, and Y gets its value
   pub take-label : (x y : Variable) (from : ℕ) → replyFor c o (held (here c o l) x) ≡ some from → (d : Cells)
@@ -137,7 +154,7 @@ module _ (m : Model) (accepted : AcceptedModel m) (c : Cells) (is : isConfigurat
   unfolding Events.performing eqZ nat
   take-label x y from h d e =
       let u = replied-for c o (held (here c o l) x) from h in
-      let before : ofCall c l line ≡ pos (at .at) = stood-at m c l at (r .stands) .line-is in
+      let before : ofCall c l line ≡ pos (at .at) = running-call .bound .stands .counts ∙ ap (λ (s : Standing). pos (s .at)) stands-at in
       let after : ofCall d l line ≡ pos (at .at + 1) =
       ap (λ d. ofCall d l line) (e ∙ ap (written c) (sym (append-assoc (staged c from taken) (stored c o l y (ofCall c from value)) (onward m c o l at))))
       ∙ line-reads m c o l at c (all-cells m c is) (running-issued .0) label-few (staged c from taken ++ stored c o l y (ofCall c from value)) in
@@ -150,7 +167,6 @@ module _ (m : Model) (accepted : AcceptedModel m) (c : Cells) (is : isConfigurat
       → d ≡ written c (staged c from taken ++ (stored c o l y (ofCall c from value) ++ onward m c o l at)) → held (here d o l) y ≡ ofCall c from value
   unfolding CodeWithin
   take-value x y from s d e =
-      let w = stands-within accepted c l at (r .stands) in
-      let code : CodeWithin (w .0) (length m) (get x y) = subst (CodeWithin (w .0) (length m)) s (w .1) in
+      let code : CodeWithin limits (length m) (get x y) = subst (CodeWithin limits (length m)) s line-within in
       ap (λ d. held (here d o l) y) (e ∙ written-append c (staged c from taken) (stored c o l y (ofCall c from value) ++ onward m c o l at))
-      ∙ stores-it (written c (staged c from taken)) (length-written c (staged c from taken)) y (w .2 y (code .1)) (ofCall c from value)
+      ∙ stores-it (written c (staged c from taken)) (length-written c (staged c from taken)) y (fits y (code .1)) (ofCall c from value)

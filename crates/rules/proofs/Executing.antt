@@ -73,10 +73,10 @@ module _ (m : Model) (accepted : AcceptedModel m) (c : Cells) (o l : ℕ) (p : P
   pub within : CodeWithin (record { attrs = p .bound .stands .class .attrs; locals = p .bound .stands .body .locals }) (length m) st
   within = let a = p .bound .stands in line-accepted accepted _ (a .class) (a .exists .there) _ (a .body) (a .has) _ (a .statement) (a .inside)
 
-  few-attrs : p .bound .stands .class .attrs ≤ mostAttributes
+  pub few-attrs : p .bound .stands .class .attrs ≤ mostAttributes
   few-attrs = let a = p .bound .stands in class-accepted accepted _ (a .class) (a .exists .there) .attrs
 
-  few-locals : p .bound .stands .body .locals ≤ mostLocals
+  pub few-locals : p .bound .stands .body .locals ≤ mostLocals
   few-locals = let a = p .bound .stands in method-accepted accepted _ (a .class) (a .exists .there) _ (a .body) (a .has) .locals .1
 
   -- a line that is no `return` has a next one

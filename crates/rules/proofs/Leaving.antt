@@ -28,7 +28,7 @@ module _ (m : Model) (c : Cells) (o l : ℕ) (p : Performing m c o l) where
   holds : CallFacts m (objectsInUse c) (ofObject c o class) (ofObject c o runningLabel) l (ofCall c l)
   holds = call-at m c l o (p .conf) (p .call .0) (p .call .1) (p .callee)
 
-  object-row : o ≤ objectRows
+  pub object-row : o ≤ objectRows
   unfolding objectsInUse
   object-row = let a = p .object .1 in let b = p .conf .objects .most in omega arith
 
