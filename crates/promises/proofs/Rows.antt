@@ -93,10 +93,11 @@ module _ (c d : Cells) (long : length d ≡ allCells) (left : rowLeft c ≡ true
 -- a new object that runs a new call, behind what its maker stores
 module _ (c : Cells) (long : length c ≡ allCells) (left : objectLeft c ≡ true) (left-calls : rowLeft c ≡ true) (k l st by to j : ℕ) (zs : List ℤ)
     (tail : List Write) (only : AtOnly scratch tail) where
-  -- the object, and behind it the call
+  -- the object
   first : Rows c (written c (withObject c k l zs)) (pos (nextObject c)) (read c calls) 0 (nextObject c) (ofCall c 0) (valued (objectValues k l zs))
   first = object-rows c long left 0 k l zs
 
+  -- and behind it the call
   second : (let d = written c (withObject c k l zs) in
       Rows d (written d (withCall c st by to j [])) (read d objects) (pos (nextRow c)) (nextRow c) (nextObject c) (valued (callValues st by to j [])) (ofObject d (nextObject c)))
   second = call-rows c (written c (withObject c k l zs)) (first .length) left-calls (nextObject c) st by to j []
