@@ -17,13 +17,12 @@ use Rattle.layout.specs.Stages.{invoked, bound, running, answered, replied, tak
 use Rattle.code.specs.declared.Shape.the-variants as Shape
 use Rattle.code.specs.Blocks.{shapeOf, isShape}
 use Rattle.code.specs.Reader.{lastMethod}
-use Rattle.code.specs.Statements.{Code}
 use Rattle.model.specs.Bounds.{mostParams}
 use Rattle.model.specs.Model.{Model, Class, runs}
 use Rattle.cells.specs.Configuration.{is, zeroFrom, numbersHold, namedByCallee, unboundHolds, lineHolds, boundHolds, callerlessHolds, callHolds}
 use Rattle.cells.specs.Standing.{classOf, Standing, standingOf}
-use Rattle.cells.proofs.Tested.{passed-failed, Counts, Number, number, numbered, equals, equalled, nat-of, counts-of, asked, otherwise}
-use Rattle.cells.proofs.Facts.{ZeroFrom, ClassAt, StandsAt, Unbound, Bound, Callerless, CallFacts, CallHolds}
+use Rattle.cells.proofs.Tested.{passed-failed, Counts, Number, number, numbered, equals, equalled, nat-of, asked, otherwise}
+use Rattle.cells.proofs.Facts.{ZeroFrom, ClassAt, Unbound, Bound, Callerless, CallHolds}
 use Rattle.cells.proofs.FromTest.{zeros, shape-is, class-at, stage-is, stages-are, stands-at}
 
 -- the tests of a list, one by one

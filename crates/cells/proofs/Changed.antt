@@ -1,6 +1,6 @@
 -- Cells that are a configuration with one call row and one object row put anew are a configuration, where the two rows hold what they must.
 -- This is the one law that every rule cites. Assumes nothing.
-use Prim.Native.Nat.{ℕ, _≤_, _<_}
+use Prim.Native.Nat.{ℕ, _≤_}
 use mathlib.Core.Bool.{Bool, true, false}
 use mathlib.Core.Path.{_≡_, refl, sym, ap, subst, _∙_}
 use mathlib.Core.Logic.{_≢_}
@@ -9,10 +9,10 @@ use borrow.Author.Tests.{eqb-true, eqb-false}
 use lib.Dec.{eqb}
 use lib.IntN.{ℤ, pos}
 use Rattle.whole.specs.Whole.{nat}
-use Rattle.layout.specs.Layout.{Cells, objectRows, callRows, read, objects, calls, ofObject, ofCall, class, runningLabel, stage, caller, callee, method}
+use Rattle.layout.specs.Layout.{Cells, objectRows, callRows, objects, calls, ofObject, ofCall, class, runningLabel, stage, caller, callee, method}
 use Rattle.layout.specs.Stages.{running, objectsInUse, rowsInUse}
 use Rattle.model.specs.Model.{Model}
-use Rattle.cells.proofs.Tested.{Counts, Number, nat-of, counts-of}
+use Rattle.cells.proofs.Tested.{nat-of, counts-of}
 use Rattle.cells.proofs.Facts.{Fields, ObjectFacts, Bound, Callerless, CallFacts, ObjectHolds, CallHolds, Configured}
 use Rattle.cells.proofs.CallFromTest.{counted-is}
 use Rattle.cells.proofs.Rows.{Rows}

@@ -1,8 +1,7 @@
 -- A configuration as facts: what holds of an object, of a call and of the whole, in document 01's words. A row is the function that gives its
 -- cells by their fields, so that what holds of a row is said of any row with those cells. Assumes nothing.
 use Prim.Native.Nat.{ℕ, _≤_, _<_}
-use mathlib.Core.Bool.{Bool, true, false}
-use mathlib.Core.List.{List}
+use mathlib.Core.Bool.{true}
 use mathlib.Core.Option.{some}
 use mathlib.Core.Path.{_≡_}
 use mathlib.Core.Logic.{_≢_}
@@ -11,7 +10,7 @@ use lib.ListN.{length, getElem?}
 use Rattle.whole.specs.Whole.{nat}
 use Rattle.layout.specs.Layout
 use Rattle.layout.specs.Layout.{Cells, allCells, objectRows, callRows, mostAttributes, mostLocals, read, objects, calls, ofObject, ofCall}
-use Rattle.layout.specs.Stages.{invoked, queued, bound, running, answered, replied, taken, objectsInUse, rowsInUse}
+use Rattle.layout.specs.Stages.{invoked, bound, running, answered, replied, taken, objectsInUse, rowsInUse}
 use Rattle.code.specs.declared.Shape.the-variants as Shape
 use Rattle.code.specs.Blocks.{shapeOf}
 use Rattle.code.specs.Statements.{Code}

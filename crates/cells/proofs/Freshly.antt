@@ -1,12 +1,11 @@
 -- The configuration that a start writes is one, of every accepted model. Assumes nothing.
-use Prim.Native.Nat.{ℕ, _≤_, _<_}
 use mathlib.Core.Bool.{Bool, true, false}
-use mathlib.Core.List.{List, [], _∷_, _++_}
+use mathlib.Core.List.{[]}
 use mathlib.Core.Path.{_≡_, refl, sym, ap, subst, _∙_}
 use native.Mathlib.Omega.{arith}
 use borrow.Author.Tests.{eq-eqb}
-use lib.IntN.{ℤ, pos}
-use lib.ListN.{length, getD, replicate, length-replicate, getD-replicate}
+use lib.IntN.{pos}
+use lib.ListN.{length, replicate, length-replicate, getD-replicate}
 use Rattle.whole.specs.Whole.{nat}
 use Rattle.layout.specs.Layout
 use Rattle.layout.specs.Layout.{Cells, Place, allCells, stands, cellOf, read, written, objects, calls, ofObject, ofCall, newObject, newCall}

@@ -1,31 +1,27 @@
 -- From the test of a configuration to what holds of it, condition by condition. Assumes nothing.
-use Prim.Native.Nat.{ℕ, _+_, _≤_, _<_}
+use Prim.Native.Nat.{ℕ, _≤_}
 use mathlib.Core.Bool.{Bool, true, false, _&&_, _||_, false≢true}
-use mathlib.Core.List.{List, [], _∷_}
 use mathlib.Core.Option.{Option, none, some}
-use mathlib.Core.Path.{_≡_, refl, sym, ap, subst, _∙_}
+use mathlib.Core.Path.{_≡_, refl, sym, ap, _∙_}
 use native.Mathlib.Omega.{arith}
-use borrow.Author.Tests.{leb-true, leb-false, le-leb, eqb-true, eqb-false}
+use borrow.Author.Tests.{le-leb, eqb-true}
 use lib.Dec.{eqb, leb}
 use lib.IntN.{ℤ, pos}
 use lib.ListN.{getElem?}
-use Rattle.whole.specs.Plain.{allBelow, whenever, onlyIf}
+use Rattle.whole.specs.Plain.{whenever, onlyIf}
 use Rattle.whole.specs.Whole.{between, eqZ, nat, natural}
 use Rattle.whole.proofs.Both.{both-left, both-right}
 use Rattle.layout.specs.Layout
-use Rattle.layout.specs.Layout.{Cells, mostAttributes, mostLocals, read, objects, ofObject, ofCall, attribute, local}
-use Rattle.layout.specs.Stages.{invoked, bound, running, answered, replied, taken, nobody, objectsInUse, rowsInUse, upTo, labelOf, stageOf, inStage, inStages}
+use Rattle.layout.specs.Layout.{Cells, mostAttributes, ofObject, ofCall, attribute}
+use Rattle.layout.specs.Stages.{running, rowsInUse, upTo, labelOf, stageOf, inStage, inStages}
 use Rattle.code.specs.declared.Shape.{Shape}
 use Rattle.code.specs.declared.Shape.the-variants as Shape
-use Rattle.code.specs.Blocks.{shapeOf, shapeNumber, isShape}
-use Rattle.code.specs.Reader.{lastMethod}
-use Rattle.code.specs.Statements.{Code}
-use Rattle.model.specs.Bounds.{mostParams}
-use Rattle.model.specs.Model.{Model, Class, Method, runs, takes, methodOf, bindsTo}
-use Rattle.cells.specs.Configuration.{is, zeroFrom, runningNamed, objectHolds, numbersHold, namedByCallee, unboundHolds, lineHolds, boundHolds, callerlessHolds, callHolds}
+use Rattle.code.specs.Blocks.{shapeNumber, isShape}
+use Rattle.model.specs.Model.{Model, Class, Method, takes, methodOf, bindsTo}
+use Rattle.cells.specs.Configuration.{is, zeroFrom, runningNamed, objectHolds}
 use Rattle.cells.specs.Standing.{classOf, bodyOf, Standing, standingOf}
-use Rattle.cells.proofs.Tested.{no-some, passed-failed, Counts, Number, number, equals, of-natural, nat-of, counts-of, asked, otherwise, each-below, found}
-use Rattle.cells.proofs.Facts.{Fields, ZeroFrom, ClassAt, ObjectFacts, StandsAt, Unbound, Bound, Callerless, CallFacts, ObjectHolds, CallHolds}
+use Rattle.cells.proofs.Tested.{no-some, Number, number, equals, of-natural, nat-of, counts-of, asked, each-below, found}
+use Rattle.cells.proofs.Facts.{ZeroFrom, ClassAt, StandsAt, ObjectHolds}
 
 -- fields from one of a family on are 0
 pub zeros : (family from : ℕ) (field : ℕ → ℤ) → zeroFrom family from field ≡ true → ZeroFrom family from field

@@ -1,24 +1,21 @@
 -- How a call's row may change so that it still holds what it must: its stage, its line, a local, cleared and value. Each law is over the fields
 -- that are put, whichever rule puts them. Assumes nothing.
-use Prim.Native.Nat.{ℕ, _+_, _≤_, _<_}
-use mathlib.Core.Bool.{Bool, true, false}
-use mathlib.Core.Option.{some}
-use mathlib.Core.Path.{_≡_, refl, sym, ap, subst, _∙_}
+use Prim.Native.Nat.{ℕ, _≤_, _<_}
+use mathlib.Core.Bool.{true, false}
+use mathlib.Core.Path.{_≡_, refl, sym, ap, _∙_}
 use mathlib.Core.Logic.{_≢_}
 use native.Mathlib.Omega.{arith}
 use borrow.Author.Tests.{le-ltb}
 use lib.Dec.{ltb}
 use lib.IntN.{ℤ, pos}
-use lib.ListN.{getElem?}
 use Rattle.whole.specs.Whole.{nat}
 use Rattle.layout.specs.Layout
 use Rattle.layout.specs.Layout.{mostLocals}
 use Rattle.layout.specs.Stages.{invoked, queued, bound, running, answered, replied, taken}
 use Rattle.code.specs.declared.Shape.the-variants as Shape
 use Rattle.code.specs.Blocks.{shapeOf, shapeNumber}
-use Rattle.code.specs.Statements.{Code}
 use Rattle.model.specs.Model.{Model}
-use Rattle.cells.proofs.Tested.{Counts, Number, nat-of}
+use Rattle.cells.proofs.Tested.{Number, nat-of}
 use Rattle.cells.proofs.Facts.{Fields, ZeroFrom, StandsAt, Unbound, Bound, Callerless, CallFacts}
 use Rattle.cells.proofs.Writes.{put, put-other}
 

@@ -2,25 +2,24 @@
 use Prim.Native.Nat.{ℕ, zero, suc, _+_, _-_, _≤_, _<_}
 use mathlib.Core.Bool.{Bool, true, false}
 use mathlib.Core.List.{List, [], _∷_, _++_}
-use mathlib.Core.Option.{Option, none, some}
-use mathlib.Core.Path.{_≡_, refl, sym, ap, subst, _∙_}
+use mathlib.Core.Option.{some}
+use mathlib.Core.Path.{_≡_, refl, sym, ap, _∙_}
 use native.Mathlib.Omega.{arith}
 use borrow.Author.Tests.{ltb-true, ltb-false, eqb-true}
 use lib.Dec.{ltb}
 use lib.IntN.{ℤ, pos}
-use lib.ListN.{length, getD, getElem?, take, replicate, length-append, length-replicate, getD-replicate, List·getD-append, List·getD-eq-default}
+use lib.ListN.{length, getD, getElem?, replicate, length-append, length-replicate, getD-replicate, List·getD-append, List·getD-eq-default}
 use lib.Seq.{length-take-le, getD-take, getD-append-add}
 use Rattle.whole.specs.Whole.{nat}
 use Rattle.layout.specs.Layout
 use Rattle.layout.specs.Layout.{Cells, mostAttributes, mostLocals, objectRows, callRows, written, padded, newObject, newCall}
 use Rattle.layout.specs.Stages.{invoked, running, taken}
 use Rattle.code.specs.Reader.{lastMethod}
-use Rattle.code.specs.Statements.{Code}
 use Rattle.model.specs.Accepted.{AcceptedModel}
 use Rattle.model.specs.Bounds.{mostParams}
-use Rattle.model.specs.Model.{Model, Class, Method, runs}
+use Rattle.model.specs.Model.{Model, Class, runs}
 use Rattle.model.proofs.AcceptedAt as Accepted
-use Rattle.cells.proofs.Facts.{Fields, ClassAt, ObjectFacts, StandsAt, Callerless, CallFacts}
+use Rattle.cells.proofs.Facts.{Fields, ClassAt, ObjectFacts, StandsAt, CallFacts}
 use Rattle.cells.proofs.Moves.{number-is}
 use Rattle.cells.proofs.Rows.{Rows, valued, wrote-call-row, wrote-object-row}
 

@@ -1,5 +1,5 @@
 -- Rows in use put anew: a call and its callee. What the rules need of the one law about rows, where nothing is added. Assumes nothing.
-use Prim.Native.Nat.{ℕ, _≤_, _<_}
+use Prim.Native.Nat.{ℕ, _≤_}
 use mathlib.Core.Bool.{Bool, true, false}
 use mathlib.Core.Path.{_≡_, refl, sym, ap, subst, _∙_}
 use mathlib.Core.Logic.{_≢_}
@@ -8,10 +8,10 @@ use borrow.Author.Tests.{eqb-true, eqb-false}
 use lib.Dec.{eqb}
 use lib.IntN.{ℤ, pos}
 use Rattle.whole.specs.Whole.{nat}
-use Rattle.layout.specs.Layout.{Cells, mostAttributes, objectRows, callRows, read, objects, calls, ofObject, ofCall, class, runningLabel, attribute, stage, callee}
+use Rattle.layout.specs.Layout.{Cells, mostAttributes, read, objects, calls, ofObject, ofCall, class, runningLabel, attribute, stage, callee}
 use Rattle.layout.specs.Stages.{running, objectsInUse, rowsInUse}
 use Rattle.model.specs.Model.{Model, Class}
-use Rattle.cells.proofs.Tested.{Counts, Number, nat-of, counts-of}
+use Rattle.cells.proofs.Tested.{Number, nat-of, counts-of}
 use Rattle.cells.proofs.Facts.{Fields, ZeroFrom, ClassAt, ObjectFacts, CallFacts, ObjectHolds, CallHolds, Configured}
 use Rattle.cells.proofs.CallFromTest.{counted-is}
 use Rattle.cells.proofs.Rows.{Rows}

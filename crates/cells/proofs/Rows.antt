@@ -2,16 +2,15 @@
 -- rule writes has its law here. Assumes nothing.
 use Prim.Native.Nat.{ℕ, zero, suc, _+_, _≤_, _<_}
 use mathlib.Core.Bool.{Bool, true, false, _&&_}
-use mathlib.Core.List.{List, [], _∷_, _++_}
-use mathlib.Core.Path.{_≡_, refl, sym, ap, subst, fun-ext, _∙_}
+use mathlib.Core.List.{List, [], _∷_}
+use mathlib.Core.Path.{_≡_, refl, sym, ap, fun-ext, _∙_}
 use mathlib.Core.Logic.{_≢_}
 use native.Mathlib.Omega.{arith}
-use native.Mathlib.Nat.{zero-add}
-use borrow.Author.Tests.{eqb-true, eqb-false, ltb-true, ltb-false, le-ltb}
-use lib.Dec.{eqb, ltb}
+use borrow.Author.Tests.{ltb-true, ltb-false, le-ltb}
+use lib.Dec.{ltb}
 use lib.IntN.{ℤ, pos}
 use lib.ListN.{length, getD, List·getD-eq-default}
-use Rattle.layout.specs.Layout.{Cells, Place, header, object, call, objectRows, objectCells, callRows, callCells, allCells, isRow, stands, read, write, Write, written, objects, calls, ofObject, ofCall, toObject, toCall, rowFrom, stage}
+use Rattle.layout.specs.Layout.{Cells, object, call, objectRows, objectCells, callRows, callCells, allCells, isRow, stands, read, write, written, objects, calls, ofObject, ofCall, toObject, toCall, rowFrom, stage}
 use Rattle.layout.specs.Stages.{staged}
 use Rattle.layout.proofs.Laws.{read-none, length-write}
 use Rattle.cells.proofs.Facts.{Fields}

@@ -1,20 +1,20 @@
 -- From what holds of an object and of a call back to the tests. Assumes nothing.
-use Prim.Native.Nat.{ℕ, zero, suc, _≤_, _<_}
-use mathlib.Core.Bool.{Bool, true, false, _&&_, _||_, false≢true}
-use mathlib.Core.List.{List, [], _∷_}
-use mathlib.Core.Option.{Option, none, some}
-use mathlib.Core.Path.{_≡_, refl, sym, ap, subst, _∙_}
+use Prim.Native.Nat.{ℕ, _≤_, _<_}
+use mathlib.Core.Bool.{Bool, true, false, _&&_, _||_}
+use mathlib.Core.List.{[], _∷_}
+use mathlib.Core.Option.{none, some}
+use mathlib.Core.Path.{_≡_, refl, sym, ap, subst}
 use native.Mathlib.Omega.{arith}
 use borrow.Author.Tests.{leb-true, eq-eqb}
-use lib.Dec.{leb, eqb}
+use lib.Dec.{leb}
 use lib.IntN.{ℤ, pos}
 use lib.ListN.{getElem?}
 use Rattle.whole.specs.Plain.{all, whenever, onlyIf}
 use Rattle.whole.specs.Whole.{between, eqZ, nat, natural}
 use Rattle.whole.proofs.Both.{both, both-left, both-right}
 use Rattle.layout.specs.Layout
-use Rattle.layout.specs.Layout.{Cells, mostAttributes, mostLocals, read, objects, ofObject, ofCall, attribute, local}
-use Rattle.layout.specs.Stages.{invoked, bound, running, answered, replied, taken, nobody, objectsInUse, rowsInUse, upTo, labelOf, stageOf, inStage, inStages}
+use Rattle.layout.specs.Layout.{Cells, mostAttributes, mostLocals, read, objects, ofObject, ofCall}
+use Rattle.layout.specs.Stages.{invoked, bound, running, answered, taken, nobody, objectsInUse, rowsInUse, upTo, labelOf, stageOf, inStage, inStages}
 use Rattle.code.specs.declared.Shape.{Shape}
 use Rattle.code.specs.declared.Shape.the-variants as Shape
 use Rattle.code.specs.Blocks.{shapeOf, shapeNumber, isShape}
@@ -22,9 +22,9 @@ use Rattle.code.specs.Reader.{lastMethod}
 use Rattle.model.specs.Bounds.{mostParams}
 use Rattle.model.specs.Model.{Model, Class, Method, runs, takes, methodOf, bindsTo}
 use Rattle.cells.specs.Configuration.{is, zeroFrom, runningNamed, objectHolds, numbersHold, namedByCallee, unboundHolds, lineHolds, boundHolds, callerlessHolds, callHolds}
-use Rattle.cells.specs.Standing.{classOf, bodyOf, Standing, standingOf}
-use Rattle.cells.proofs.Tested.{passed-failed, Counts, Number, number, numbered, equals, equalled, natural-of, nat-of, asking, one-of, below-each}
-use Rattle.cells.proofs.Facts.{ZeroFrom, ClassAt, StandsAt, Unbound, Bound, Callerless, CallFacts, ObjectHolds, CallHolds}
+use Rattle.cells.specs.Standing.{classOf, bodyOf, standingOf}
+use Rattle.cells.proofs.Tested.{passed-failed, Counts, Number, numbered, equals, equalled, natural-of, nat-of, asking, one-of, below-each}
+use Rattle.cells.proofs.Facts.{ZeroFrom, ClassAt, StandsAt, Callerless, ObjectHolds, CallHolds}
 use Rattle.cells.proofs.FromTest.{stage-is, stages-are}
 use Rattle.cells.proofs.CallFromTest.{counted-is, in-stage, in-stages, below-first, past-last}
 

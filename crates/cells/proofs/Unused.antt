@@ -1,17 +1,15 @@
 -- "unused ones 0": the pass over all cells says that every place that is not in use reads 0, and the converse. Assumes nothing.
-use Prim.Native.Nat.{ℕ, zero, suc, _+_, _≤_, _<_}
+use Prim.Native.Nat.{ℕ, zero, suc, _+_, _<_}
 use mathlib.Core.Bool.{Bool, true, false, _||_, false≢true}
-use mathlib.Core.List.{List, [], _∷_}
-use mathlib.Core.Path.{_≡_, refl, sym, ap, subst, _∙_}
+use mathlib.Core.List.{[], _∷_}
+use mathlib.Core.Path.{_≡_, refl, sym, ap, _∙_}
 use native.Mathlib.Omega.{arith}
 use native.Mathlib.Nat.{zero-add}
 use borrow.Author.Tests.{leb-false, lt-leb}
-use lib.Dec.{leb}
-use lib.IntN.{ℤ, pos}
+use lib.IntN.{pos}
 use lib.ListN.{length, getD}
-use Rattle.whole.specs.Whole.{eqZ}
 use Rattle.layout.specs.Layout.{Cells, Place, header, object, call, allCells, stands, cellOf, placeOf, read, ofObject, ofCall}
-use Rattle.layout.proofs.Laws.{Stands, standing, stood, cell-below, placed, place-cell, read-stood, read-none}
+use Rattle.layout.proofs.Laws.{standing, stood, cell-below, placed, place-cell, read-stood, read-none}
 use Rattle.cells.specs.Configuration.{is, placeInUse, zeroUnless}
 use Rattle.cells.proofs.Tested.{equals, equalled, otherwise, one-of, passed-failed}
 use Rattle.cells.proofs.Writes.{call-read, object-read}

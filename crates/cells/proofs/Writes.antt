@@ -1,18 +1,17 @@
 -- What writes leave, row by row: one field of one row is put anew, and every other row and field is as it was. Assumes nothing.
-use Prim.Native.Nat.{ℕ, zero, suc, _+_, _≤_, _<_}
+use Prim.Native.Nat.{ℕ, _≤_, _<_}
 use mathlib.Core.Bool.{Bool, true, false, _&&_}
 use mathlib.Core.List.{List, [], _∷_, _++_}
-use mathlib.Core.Option.{Option, none, some}
-use mathlib.Core.Path.{_≡_, refl, sym, ap, subst, fun-ext, _∙_}
+use mathlib.Core.Path.{_≡_, refl, sym, ap, fun-ext, _∙_}
 use mathlib.Core.Logic.{_≢_}
 use native.Mathlib.Omega.{arith}
-use borrow.Author.Tests.{eqb-true, eqb-false, eq-eqb, ne-eqb, lt-ltb}
+use borrow.Author.Tests.{eqb-true, eqb-false, eq-eqb, ne-eqb}
 use lib.Dec.{eqb, ltb}
-use lib.IntN.{ℤ, pos}
-use lib.ListN.{length, getD}
+use lib.IntN.{ℤ}
+use lib.ListN.{length}
 use Rattle.whole.specs.Plain.{onlyIf}
-use Rattle.layout.specs.Layout.{Cells, Place, header, object, call, headerCells, objectRows, objectCells, callRows, callCells, allCells, isRow, stands, read, write, Write, written, ofObject, ofCall, toObject, toCall, rowOf, rowFrom}
-use Rattle.layout.proofs.Laws.{read-none, write-none, length-write, read-write-same, read-write-other, within-row}
+use Rattle.layout.specs.Layout.{Cells, header, object, call, headerCells, objectRows, objectCells, callRows, callCells, allCells, isRow, stands, read, write, Write, written, ofObject, ofCall, toObject, toCall, rowOf}
+use Rattle.layout.proofs.Laws.{read-none, write-none, read-write-same, read-write-other}
 use Rattle.cells.proofs.Facts.{Fields}
 
 -- a row with one field put anew

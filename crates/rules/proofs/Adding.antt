@@ -1,22 +1,22 @@
 -- Rows added to a configuration: the next object, the next label, or both. The running call is as it was. Assumes nothing.
 use Prim.Native.Nat.{ℕ, _+_, _≤_, _<_}
-use mathlib.Core.Bool.{Bool, true, false}
-use mathlib.Core.List.{List, [], _∷_, _++_}
-use mathlib.Core.Option.{Option, none, some}
+use mathlib.Core.Bool.{true}
+use mathlib.Core.List.{List, [], _++_}
+use mathlib.Core.Option.{some}
 use mathlib.Core.Path.{_≡_, refl, sym, ap, subst, _∙_}
 use mathlib.Core.Logic.{_≢_}
 use native.Mathlib.Omega.{arith}
 use lib.IntN.{ℤ, pos}
 use lib.ListN.{length, getElem?}
 use Rattle.whole.specs.Whole.{nat}
-use Rattle.layout.specs.Layout.{Cells, Write, written, objectRows, callRows, read, objects, calls, ofObject, ofCall, class, runningLabel, stage, callee, newObject, newCall}
+use Rattle.layout.specs.Layout.{Cells, Write, written, objectRows, callRows, read, objects, calls, ofObject, ofCall, class, runningLabel, stage, callee}
 use Rattle.layout.specs.Stages.{invoked, running, objectsInUse, rowsInUse}
 use Rattle.code.specs.Reader.{lastMethod}
 use Rattle.model.specs.Accepted.{AcceptedModel}
 use Rattle.model.specs.Bounds.{mostParams}
 use Rattle.model.specs.Model.{Model, Class, runs}
 use Rattle.cells.proofs.Tested.{nat-of}
-use Rattle.cells.proofs.Facts.{Fields, ObjectHolds, CallHolds, Configured}
+use Rattle.cells.proofs.Facts.{Fields}
 use Rattle.cells.proofs.Writes.{written-append}
 use Rattle.cells.proofs.Rows.{Rows, valued, unwritten, counts-objects, counts-calls}
 use Rattle.cells.proofs.Changed.{call-among, object-among, Grows, Respects, changed}

@@ -1,13 +1,13 @@
 -- What an accepted step does to the calls: one call's stage or line is another, and every other call that waits for no reply is as it was.
 -- Assumes nothing.
-use Prim.Native.Nat.{ℕ, _+_, _≤_, _<_}
-use mathlib.Core.Bool.{Bool, true, false}
-use mathlib.Core.List.{List, [], _∷_, _++_, append-nil}
+use Prim.Native.Nat.{ℕ, _≤_}
+use mathlib.Core.Bool.{true}
+use mathlib.Core.List.{List, [], _++_, append-nil}
 use mathlib.Core.Option.{Option, none, some}
 use mathlib.Core.Path.{_≡_, refl, sym, ap, subst, _∙_}
 use mathlib.Core.Logic.{_≢_}
 use native.Mathlib.Omega.{arith}
-use lib.IntN.{ℤ, pos}
+use lib.IntN.{pos}
 use lib.ListN.{length}
 use Rattle.whole.specs.Refusals.{notInvoked, notQueued, noSuchMethod, notBound, objectBusy, notReady, notAnswered}
 use Rattle.whole.specs.Whole.{eqZ, nat}
@@ -20,7 +20,7 @@ use Rattle.cells.proofs.Facts.{Fields, Configured}
 use Rattle.cells.proofs.FromTest.{stage-is}
 use Rattle.rules.specs.Kinds.{Kind, exec, arrive, bind, start, deliver}
 use Rattle.rules.specs.Messages as Messages
-use Rattle.rules.specs.Next.{Next, refused, moved}
+use Rattle.rules.specs.Next.{refused, moved}
 use Rattle.rules.proofs.Messaging.{writes-are, label-row}
 use Rattle.rules.proofs.Moved.{refused-moved, must-moved, working-moved}
 use Rattle.rules.proofs.Sparing.{Spares, spared, spares-stage, spares-object, spares-both, last-in-row, spared-after}

@@ -1,7 +1,7 @@
 -- What an accepted exec does to the calls, form by form: the running call's line or stage is another. Assumes nothing.
 use Prim.Native.Nat.{ℕ, _+_, _≤_, _<_}
 use mathlib.Core.Bool.{Bool, true, false, false≢true}
-use mathlib.Core.List.{List, [], _∷_, _++_, map}
+use mathlib.Core.List.{List, [], _++_, map}
 use mathlib.Core.Option.{Option, none, some}
 use mathlib.Core.Path.{_≡_, refl, sym, ap, subst, _∙_}
 use mathlib.Core.Logic.{_≢_}
@@ -11,8 +11,8 @@ use lib.ListN.{length, getD, length-map}
 use Rattle.whole.specs.Refusals.{objectRowsFull, callRowsFull, calleeNoObject, replyNotIn}
 use Rattle.whole.specs.Plain.{whenever}
 use Rattle.whole.specs.Whole.{isTrue, nat}
-use Rattle.layout.specs.Layout.{Cells, Write, written, callRows, ofObject, ofCall, toObject, toCall, runningLabel, stage, callee, line, cleared, value}
-use Rattle.layout.specs.Stages.{invoked, bound, running, answered, replied, taken, objectsInUse, rowsInUse, objectOf, replyFor, staged}
+use Rattle.layout.specs.Layout.{Cells, Write, written, callRows, ofCall, toObject, toCall, runningLabel, stage, callee, line, cleared, value}
+use Rattle.layout.specs.Stages.{invoked, bound, running, replied, taken, rowsInUse, objectOf, replyFor, staged}
 use Rattle.terms.specs.declared.Variable.{Variable}
 use Rattle.terms.specs.Values.{held, valueOf, guardOf}
 use Rattle.code.specs.declared.Shape.{Shape}
@@ -24,20 +24,19 @@ use Rattle.code.proofs.Jumps.{partner-ahead, partner-behind}
 use Rattle.model.specs.Accepted.{AcceptedModel}
 use Rattle.model.specs.Model.{Model}
 use Rattle.model.proofs.AcceptedAt.{method-accepted}
-use Rattle.cells.specs.Standing.{Standing, standingOf, shapesOf}
+use Rattle.cells.specs.Standing.{shapesOf}
 use Rattle.cells.proofs.Tested.{nat-of}
-use Rattle.cells.proofs.Facts.{Fields, Configured}
+use Rattle.cells.proofs.Facts.{Fields}
 use Rattle.cells.proofs.FromTest.{stage-is}
 use Rattle.rules.specs.Exec.{stored, nextRow, nextObject, objectLeft, rowLeft, classRuns, withObject, withCall, here, workedOut, onward, jumped, assigned, made, created, issued, tookReply, freed, crossed, suspended, awaited, branched, stageReturned, returned, performed}
-use Rattle.rules.specs.Exec as Exec
 use Rattle.rules.specs.Kinds.{exec}
-use Rattle.rules.specs.Next.{Next, refused, moved, must}
+use Rattle.rules.specs.Next.{refused, moved, must}
 use Rattle.rules.proofs.Effects.{Moves}
 use Rattle.rules.proofs.Executing.{item-inside, item-made}
 use Rattle.rules.proofs.Leaving.{stage-after}
 use Rattle.rules.proofs.Messaging.{writes-are, label-row}
-use Rattle.rules.proofs.Moved.{refused-moved, must-moved, working-moved, all-moved, exec-moved}
-use Rattle.rules.proofs.Performing.{Performing, performing, standing, stands-there}
+use Rattle.rules.proofs.Moved.{refused-moved, must-moved, working-moved, all-moved}
+use Rattle.rules.proofs.Performing.{Performing, standing}
 use Rattle.rules.proofs.Replying.{reply-is}
 use Rattle.rules.proofs.Sparing.{Spares, spared, spares-both, spares-call, spares-stage, spares-object, spares-stored, spares-new-object, spares-new-call, last-in-row, other-in-row, spared-after}
 

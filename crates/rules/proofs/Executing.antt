@@ -1,50 +1,48 @@
 -- exec keeps a configuration, form by form. Assumes nothing.
 use Prim.Native.Nat.{ℕ, zero, suc, _+_, _≤_, _<_}
-use mathlib.Core.Bool.{Bool, true, false}
+use mathlib.Core.Bool.{Bool, true, false, true≢false}
 use mathlib.Core.List.{List, [], _∷_, _++_, map}
 use mathlib.Core.Option.{Option, none, some}
 use mathlib.Core.Path.{_≡_, refl, sym, ap, subst, _∙_}
 use mathlib.Core.Logic.{_≢_}
 use native.Mathlib.Omega.{arith}
 use borrow.Author.Tests.{ltb-true}
-use lib.Dec.{ltb}
 use lib.IntN.{ℤ, pos}
-use lib.ListN.{length, getD, getElem?, length-map}
-use Rattle.whole.specs.Plain.{whenever, onlyIf}
+use lib.ListN.{length, getD, getElem?}
+use Rattle.whole.specs.Plain.{whenever}
 use Rattle.whole.specs.Refusals.{objectRowsFull, callRowsFull, calleeNoObject, replyNotIn}
-use Rattle.whole.specs.Whole.{isTrue, nat}
-use Rattle.layout.specs.Layout.{Cells, Write, written, read, objects, calls, mostAttributes, mostLocals, objectRows, callRows, ofObject, ofCall, toCall, class, line, cleared, value, stage, method}
-use Rattle.layout.specs.Stages.{invoked, running, replied, taken, objectsInUse, rowsInUse, objectOf, labelOf, isReply, inStage, replyFor, staged}
+use Rattle.whole.specs.Whole.{nat, isTrue}
+use Rattle.layout.specs.Layout.{Cells, Write, written, mostAttributes, mostLocals, objectRows, callRows, ofCall, class, line, cleared, value}
+use Rattle.layout.specs.Stages.{invoked, running, taken, objectsInUse, rowsInUse, objectOf, replyFor, staged}
 use Rattle.terms.specs.declared.Variable.{Variable}
-use Rattle.terms.specs.Values.{held, valueOf, guardOf}
+use Rattle.terms.specs.Values.{held}
 use Rattle.terms.specs.Within.{VariableWithin}
 use Rattle.code.specs.declared.Shape.{Shape}
 use Rattle.code.specs.declared.Shape.the-variants as Shape
 use Rattle.code.specs.Blocks.{shapeOf, shapeNumber}
 use Rattle.code.specs.Partners.{goesTo}
 use Rattle.code.specs.Reader.{lastMethod}
-use Rattle.code.specs.Statements.{Code, skip, set, new, call, get, await, if, else, fi, while, od, return, mapStatement, newOf}
+use Rattle.code.specs.Statements.{Code, call}
 use Rattle.code.specs.Within.{CodeWithin}
-use Rattle.model.specs.Accepted.{AcceptedModel, AcceptedClass, AcceptedMethod, AcceptedNew}
+use Rattle.model.specs.Accepted.{AcceptedModel}
 use Rattle.model.specs.Bounds.{mostParams}
 use Rattle.model.specs.Model.{Model, Class, runs}
-use Rattle.model.proofs.AcceptedAt.{class-accepted, method-accepted, line-accepted, new-accepted, jump-inside, onward-inside}
-use Rattle.cells.specs.Standing.{Standing, standingOf, shapesOf}
-use Rattle.cells.proofs.Tested.{no-some, nat-of, asked}
-use Rattle.cells.proofs.Facts.{Fields, Configured}
+use Rattle.model.proofs.AcceptedAt.{class-accepted, method-accepted, line-accepted, jump-inside, onward-inside}
+use Rattle.cells.specs.Standing.{shapesOf}
+use Rattle.cells.proofs.Tested.{no-some}
+use Rattle.cells.proofs.Facts.{Configured}
 use Rattle.cells.proofs.CallFromTest.{counted-is}
-use Rattle.cells.proofs.FromTest.{up-to-number, stage-is}
-use Rattle.cells.proofs.NewRows.{item-at}
+use Rattle.cells.proofs.FromTest.{up-to-number}
 use Rattle.cells.proofs.Rewritten.{call-at}
 use Rattle.cells.proofs.Writes.{written-append}
-use Rattle.rules.specs.Exec.{stored, nextObject, nextRow, objectLeft, rowLeft, classRuns, withObject, withCall, here, workedOut, onward, jumped, assigned, made, created, issued, tookReply, freed, crossed, suspended, awaited, branched, returned, performed}
-use Rattle.rules.specs.Next.{Next, refused, moved, must}
+use Rattle.rules.specs.Exec.{stored, nextObject, nextRow, objectLeft, rowLeft, classRuns, withObject, withCall, here, onward, jumped, made, created, issued, tookReply, crossed, suspended, freed, awaited, branched}
+use Rattle.rules.specs.Next.{refused, moved, must}
 use Rattle.rules.proofs.Adding.{object-added, both-added, call-added}
-use Rattle.rules.proofs.Leaving.{suspend-keeps, return-keeps}
+use Rattle.rules.proofs.Leaving.{suspend-keeps}
 use Rattle.rules.proofs.Messaging.{writes-are}
-use Rattle.rules.proofs.Moved.{refused-moved, must-moved, working-moved, all-moved}
+use Rattle.rules.proofs.Moved.{refused-moved, must-moved}
 use Rattle.rules.proofs.Replying.{reply-taken}
-use Rattle.rules.proofs.Performing.{Performing, standing, Still, still, line-goes, cleared-goes, stored-goes}
+use Rattle.rules.proofs.Performing.{Performing, standing, Still, line-goes, stored-goes, still, cleared-goes}
 
 -- an item lies within its list, and what is made of it stands there
 pub item-inside : {A : Type 0} (xs : List A) (i : ℕ) (x : A) → getElem? xs i ≡ some x → i < length xs
@@ -61,6 +59,17 @@ item-made f d (y ∷ xs) (suc i) x e = item-made f d xs i x e
 pub parts : (c : Cells) (us vs ws : List Write) → written c (us ++ vs ++ ws) ≡ written (written c us) (vs ++ ws)
 parts c us vs ws =
     written-append c (us ++ vs) ws ∙ ap (λ d. written d ws) (written-append c us vs) ∙ sym (written-append (written c us) vs ws)
+
+-- a line at which a call may leave its object
+abbrev pub leaves : Shape → Bool
+leaves Shape.Return = true
+leaves Shape.Await = true
+leaves Shape.If = false
+leaves Shape.Else = false
+leaves Shape.Fi = false
+leaves Shape.While = false
+leaves Shape.Od = false
+leaves Shape.Plain = false
 
 module _ (m : Model) (accepted : AcceptedModel m) (c : Cells) (o l : ℕ) (p : Performing m c o l) where
   abbrev pub st : Code
@@ -99,9 +108,8 @@ module _ (m : Model) (accepted : AcceptedModel m) (c : Cells) (o l : ℕ) (p : P
       counted-is _ 0 (w .counts) (omega arith)
 
   -- a line that is neither
-  pub plain-shape : (s : Shape) → shapeOf st ≡ s → shapeNumber s ≢ shapeNumber Shape.Return → shapeNumber s ≢ shapeNumber Shape.Await
-      → (shapeOf st ≢ Shape.Return) × (shapeOf st ≢ Shape.Await)
-  plain-shape s e n k = (λ f. n (ap shapeNumber (sym e ∙ f)), λ f. k (ap shapeNumber (sym e ∙ f)))
+  pub plain-shape : (s : Shape) → shapeOf st ≡ s → leaves s ≡ false → (shapeOf st ≢ Shape.Return) × (shapeOf st ≢ Shape.Await)
+  plain-shape s e n = (λ f. true≢false (ap leaves (sym f ∙ e) ∙ n), λ f. true≢false (ap leaves (sym f ∙ e) ∙ n))
 
   -- after a first part of the writes, a variable and the next line; and the next line alone, or another
   module _ (d : Cells) (s : Still m c d o l) (plain : (shapeOf st ≢ Shape.Return) × (shapeOf st ≢ Shape.Await)) where
@@ -186,3 +194,27 @@ module _ (m : Model) (accepted : AcceptedModel m) (c : Cells) (o l : ℕ) (p : P
             ]) ≡ moved ws → Configured m (written c ws)
         go none f e = absurd (refused-moved e)
         go (some from) f e = wrote-first _ y _ e (reply-taken m c o l p _ from f) plain v
+
+    -- a branch goes on or jumps
+    pub branch-keeps : (z : ℤ) → (shapeOf st ≢ Shape.Return) × (shapeOf st ≢ Shape.Await)
+        → branched m c o l (standing p) z ≡ moved ws → Configured m (written c ws)
+    unfolding branched
+    branch-keeps z plain e = go (isTrue z) e
+      where
+        go : (b : Bool) → (elim b [ true ↦ moved (onward m c o l (standing p)) | false ↦ moved (jumped m c o l (standing p)) ]) ≡ moved ws
+            → Configured m (written c ws)
+        go true e = wrote _ e (steps c (still p) plain)
+        go false e = wrote _ e (jumps c (still p) plain)
+
+    -- "`await`: guard enabled, go on and set cleared 0. Otherwise stage 3, cleared 1, object idle, line kept."
+    pub await-keeps : (z : ℤ) → shapeOf st ≡ Shape.Await → awaited m c o l (standing p) z ≡ moved ws → Configured m (written c ws)
+    unfolding awaited crossed suspended freed onward shapeNumber
+    await-keeps z e f = go (isTrue z) f
+      where
+        no-return : shapeOf st ≢ Shape.Return
+        no-return g = let n = ap shapeNumber (sym e ∙ g) in omega arith
+
+        go : (b : Bool) → (elim b [ true ↦ moved (crossed m c o l (standing p)) | false ↦ moved (suspended m c o l (standing p)) ]) ≡ moved ws
+            → Configured m (written c ws)
+        go true f = wrote _ f (cleared-goes m c o l p c (still p) _ (next-inside no-return) c)
+        go false f = wrote _ f (suspend-keeps m c o l p e)

@@ -1,7 +1,7 @@
 -- 28, "line past the method's end", is never given from a configuration. Assumes nothing.
 use Prim.Native.Nat.{ℕ, _≤_}
 use mathlib.Core.Bool.{Bool, true, false}
-use mathlib.Core.List.{List, [], _∷_, map}
+use mathlib.Core.List.{List, [], _∷_}
 use mathlib.Core.Option.{Option, none, some}
 use mathlib.Core.Path.{_≡_, refl, sym, subst, _∙_}
 use mathlib.Core.Logic.{_≢_}
@@ -9,14 +9,13 @@ use native.Mathlib.Omega.{arith}
 use lib.IntN.{ℤ}
 use Rattle.whole.specs.declared.Worked.{Worked}
 use Rattle.whole.specs.declared.Worked.the-variants.{Value, OutOfRange}
-use Rattle.whole.specs.Refusals.{notInUse, objectIdle, pastTheEnd, calleeNoObject, replyNotIn, noSuchMethod}
+use Rattle.whole.specs.Refusals.{notInUse, objectIdle, pastTheEnd}
 use Rattle.whole.specs.Whole.{isTrue}
 use Rattle.layout.specs.Layout.{Cells, ofObject, runningLabel}
 use Rattle.layout.specs.Stages.{objectsInUse, upTo, objectOf, labelOf, replyFor}
-use Rattle.terms.specs.declared.Variable.{Variable}
 use Rattle.terms.specs.Values.{held}
 use Rattle.code.specs.Statements.{Statement, skip, set, new, call, get, await, if, else, fi, while, od, return}
-use Rattle.model.specs.Model.{Model, Method}
+use Rattle.model.specs.Model.{Model}
 use Rattle.cells.specs.Configuration.{isConfiguration}
 use Rattle.cells.specs.Standing.{Standing, bodyOf, standingOf}
 use Rattle.cells.proofs.Tested.{no-some}
@@ -30,7 +29,7 @@ use Rattle.rules.specs.Messages as Messages
 use Rattle.rules.specs.Next.{Next, refused, moved, must, working, workingAll}
 use Rattle.rules.specs.Step.{ruled, next}
 use Rattle.rules.proofs.Chosen.{up-to-some}
-use Rattle.rules.proofs.Performing.{performing, standing, stands-there}
+use Rattle.rules.proofs.Performing.{performing, stands-there}
 
 -- what a rule gives is not this refusal
 abbrev pub NotPast : Next → Type 0
@@ -57,6 +56,11 @@ option-past : {A : Type 0} (f : Option A) (n : ℕ) (k : A → Next) → n ≢ p
 option-past none n k h g = h
 option-past (some a) n k h g = g a
 
+-- a rule that asks something
+either-past : (b : Bool) (x y : Next) → NotPast x → NotPast y → NotPast (elim b as (λ _. Next) [ true ↦ x | false ↦ y ])
+either-past true x y h k = h
+either-past false x y h k = k
+
 -- a line that there is
 module _ (m : Model) (c : Cells) (o l : ℕ) (at : Standing) where
   performed-past : (s : Statement Worked Worked) → NotPast (performed m c o l at s)
@@ -67,23 +71,11 @@ module _ (m : Model) (c : Cells) (o l : ℕ) (at : Standing) where
   performed-past (call x w j ws) =
       working-past w _ (λ z. all-past ws _ (λ zs. option-past (objectOf c z) _ _ (λ e. omega arith) (λ to. must-past _ _ _ (λ e. omega arith) tt)))
   performed-past (get x y) = option-past (replyFor c o (held (here c o l) x)) _ _ (λ e. omega arith) (λ from. tt)
-  performed-past (await g) = working-past g _ (λ z. go (isTrue z))
-    where
-      go : (b : Bool) → NotPast (elim b as (λ _. Next) [ true ↦ moved (Exec.crossed m c o l at) | false ↦ moved (Exec.suspended m c o l at) ])
-      go true = tt
-      go false = tt
-  performed-past (if w) = working-past w _ (λ z. go (isTrue z))
-    where
-      go : (b : Bool) → NotPast (elim b as (λ _. Next) [ true ↦ moved (Exec.onward m c o l at) | false ↦ moved (Exec.jumped m c o l at) ])
-      go true = tt
-      go false = tt
+  performed-past (await g) = working-past g _ (λ z. either-past (isTrue z) _ _ tt tt)
+  performed-past (if w) = working-past w _ (λ z. either-past (isTrue z) _ _ tt tt)
   performed-past else = tt
   performed-past fi = tt
-  performed-past (while w) = working-past w _ (λ z. go (isTrue z))
-    where
-      go : (b : Bool) → NotPast (elim b as (λ _. Next) [ true ↦ moved (Exec.onward m c o l at) | false ↦ moved (Exec.jumped m c o l at) ])
-      go true = tt
-      go false = tt
+  performed-past (while w) = working-past w _ (λ z. either-past (isTrue z) _ _ tt tt)
   performed-past od = tt
   performed-past (return w) = working-past w _ (λ z. tt)
 

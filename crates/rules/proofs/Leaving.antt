@@ -1,13 +1,13 @@
 -- A running call that leaves its object: suspended at an `await`, or returned. Assumes nothing.
-use Prim.Native.Nat.{ℕ, _≤_, _<_}
+use Prim.Native.Nat.{ℕ, _≤_}
 use mathlib.Core.Bool.{Bool, true, false}
-use mathlib.Core.List.{List, _++_}
+use mathlib.Core.List.{_++_}
 use mathlib.Core.Path.{_≡_, refl, sym, ap, subst, _∙_}
 use native.Mathlib.Omega.{arith}
 use lib.IntN.{ℤ, pos}
 use Rattle.whole.specs.Whole.{eqZ, nat}
-use Rattle.layout.specs.Layout.{Cells, written, objectRows, callRows, read, objects, calls, ofObject, ofCall, toObject, toCall, class, runningLabel, stage, caller, callee, cleared, value}
-use Rattle.layout.specs.Stages.{bound, running, answered, taken, nobody, objectsInUse, rowsInUse, staged}
+use Rattle.layout.specs.Layout.{Cells, written, objectRows, read, objects, calls, ofObject, ofCall, toObject, toCall, class, runningLabel, stage, caller, callee, cleared, value}
+use Rattle.layout.specs.Stages.{bound, answered, taken, nobody, objectsInUse, staged}
 use Rattle.code.specs.declared.Shape.the-variants as Shape
 use Rattle.code.specs.Blocks.{shapeOf}
 use Rattle.model.specs.Model.{Model}
@@ -17,7 +17,7 @@ use Rattle.cells.proofs.Facts.{Fields, CallFacts, Configured}
 use Rattle.cells.proofs.CallFromTest.{counted-is}
 use Rattle.cells.proofs.Writes.{put, written-append}
 use Rattle.cells.proofs.Rows.{Rows, unwritten, wrote-call, wrote-stage, wrote-object}
-use Rattle.cells.proofs.Rewritten.{call-at, LabelGoes, freed, rewritten}
+use Rattle.cells.proofs.Rewritten.{call-at, freed, rewritten}
 use Rattle.cells.proofs.Moves.{suspended, returned}
 use Rattle.rules.specs.Exec.{stageReturned}
 use Rattle.rules.proofs.Messaging.{label-row, attributes-kept}

@@ -1,7 +1,7 @@
 -- arrive, bind, start and deliver keep a configuration: a stage goes from one to another, and with it a running label. Assumes nothing.
-use Prim.Native.Nat.{ℕ, _≤_, _<_}
-use mathlib.Core.Bool.{Bool, true, false}
-use mathlib.Core.List.{List, _++_}
+use Prim.Native.Nat.{ℕ, _≤_}
+use mathlib.Core.Bool.{true}
+use mathlib.Core.List.{List}
 use mathlib.Core.Option.{Option, none, some}
 use mathlib.Core.Path.{_≡_, refl, sym, ap, subst, _∙_}
 use mathlib.Core.Logic.{_≢_}
@@ -10,7 +10,7 @@ use lib.IntN.{ℤ, pos}
 use lib.ListN.{getElem?}
 use Rattle.whole.specs.Refusals.{notInvoked, notQueued, noSuchMethod, notBound, objectBusy, notReady, notAnswered}
 use Rattle.whole.specs.Whole.{eqZ, nat}
-use Rattle.layout.specs.Layout.{Cells, Write, written, mostAttributes, attribute, objectRows, callRows, read, objects, calls, ofObject, ofCall, toObject, class, runningLabel, stage, callee, method, args, line}
+use Rattle.layout.specs.Layout.{Cells, Write, written, mostAttributes, attribute, objectRows, callRows, objects, calls, ofObject, ofCall, toObject, class, runningLabel, stage, callee, method, args, line}
 use Rattle.layout.specs.Stages.{invoked, queued, bound, running, answered, replied, taken, objectsInUse, rowsInUse, inStage, staged}
 use Rattle.model.specs.Accepted.{AcceptedModel}
 use Rattle.model.specs.Model.{Model, Method}
@@ -20,12 +20,12 @@ use Rattle.cells.proofs.Tested.{equals, nat-of}
 use Rattle.cells.proofs.Facts.{Fields, ZeroFrom, StandsAt, CallFacts, Configured}
 use Rattle.cells.proofs.FromTest.{stage-is, body-at}
 use Rattle.cells.proofs.Writes.{put, put-other, written-append}
-use Rattle.cells.proofs.Rows.{Rows, unwritten, wrote-stage, wrote-object}
-use Rattle.cells.proofs.Rewritten.{call-at, LabelGoes, kept, taken-up, freed, rewritten}
+use Rattle.cells.proofs.Rows.{unwritten, wrote-stage, wrote-object}
+use Rattle.cells.proofs.Rewritten.{call-at, kept, taken-up, rewritten}
 use Rattle.cells.proofs.Moves.{arrived, went-on, bound-now, started}
 use Rattle.cells.proofs.NewRows.{item-at}
 use Rattle.rules.specs.Messages as Messages
-use Rattle.rules.specs.Next.{Next, refused, moved, must, working}
+use Rattle.rules.specs.Next.{refused, moved}
 use Rattle.rules.proofs.Moved.{refused-moved, must-moved, working-moved}
 
 -- what moved was written

@@ -2,7 +2,7 @@
 use Prim.Native.Nat.{ℕ, zero, suc, _≤_}
 use mathlib.Core.Bool.{Bool, true, false}
 use mathlib.Core.List.{List}
-use mathlib.Core.Option.{Option, none, some}
+use mathlib.Core.Option.{some}
 use mathlib.Core.Path.{_≡_, refl, sym, ap, subst, _∙_}
 use mathlib.Core.Logic.{_≢_}
 use native.Mathlib.Omega.{arith}
@@ -11,7 +11,7 @@ use lib.Dec.{eqb}
 use lib.IntN.{ℤ, pos, negsuc}
 use Rattle.whole.specs.Whole.{nat}
 use Rattle.layout.specs.Layout.{Cells, Write, written, ofCall, stage, line}
-use Rattle.layout.specs.Stages.{replied, objectsInUse, upTo}
+use Rattle.layout.specs.Stages.{replied, upTo}
 use Rattle.model.specs.Accepted.{AcceptedModel}
 use Rattle.model.specs.Model.{Model}
 use Rattle.cells.specs.Configuration.{isConfiguration}
@@ -22,7 +22,6 @@ use Rattle.cells.proofs.CallFromTest.{counted-is}
 use Rattle.cells.proofs.Configured.{configured}
 use Rattle.rules.specs.declared.Choice.{Choice}
 use Rattle.rules.specs.Exec.{here, workedOut, performed}
-use Rattle.rules.specs.Exec as Exec
 use Rattle.rules.specs.Kinds.{Kind, exec, arrive, bind, start, deliver, kindNumber, kindOf, inUse}
 use Rattle.rules.specs.Next.{moved}
 use Rattle.rules.specs.Step.{ruled, next}

@@ -1,17 +1,16 @@
 -- An object's running call at its line, and what its writes leave: on to another line of its method, with a variable stored. Assumes nothing.
-use Prim.Native.Nat.{ℕ, zero, suc, _+_, _≤_, _<_}
+use Prim.Native.Nat.{ℕ, _≤_, _<_}
 use mathlib.Core.Bool.{Bool, true, false}
-use mathlib.Core.List.{List, [], _∷_, _++_, map}
-use mathlib.Core.Option.{Option, none, some}
+use mathlib.Core.List.{_++_}
+use mathlib.Core.Option.{some}
 use mathlib.Core.Path.{_≡_, refl, sym, ap, subst, fun-ext, _∙_}
-use mathlib.Core.Logic.{_≢_}
 use native.Mathlib.Omega.{arith}
-use borrow.Author.Tests.{eqb-true, eqb-false, ltb-true, ltb-false}
+use borrow.Author.Tests.{eqb-true, ltb-true}
 use lib.Dec.{eqb, ltb}
 use lib.IntN.{ℤ, pos}
-use lib.ListN.{length, getD, getElem?}
+use lib.ListN.{length, getElem?}
 use Rattle.whole.specs.Whole.{nat}
-use Rattle.layout.specs.Layout.{Cells, Write, written, mostAttributes, mostLocals, objectRows, callRows, read, objects, calls, ofObject, ofCall, toObject, toCall, class, runningLabel, attribute, stage, callee, method, args, line, cleared, local}
+use Rattle.layout.specs.Layout.{Cells, written, mostAttributes, mostLocals, objectRows, callRows, read, objects, calls, ofObject, ofCall, toObject, toCall, class, runningLabel, attribute, stage, callee, method, args, line, cleared, local}
 use Rattle.layout.specs.Stages.{running, objectsInUse, rowsInUse, labelOf}
 use Rattle.terms.specs.declared.Variable.{Variable}
 use Rattle.terms.specs.declared.Variable.the-variants.{Attribute, Local}
@@ -19,15 +18,15 @@ use Rattle.terms.specs.Within.{VariableWithin}
 use Rattle.code.specs.Statements.{Code}
 use Rattle.model.specs.Model.{Model, Class}
 use Rattle.cells.specs.Standing.{Standing, standingOf}
-use Rattle.cells.proofs.Tested.{nat-of, no-some}
-use Rattle.cells.proofs.Facts.{Fields, ZeroFrom, ClassAt, StandsAt, Bound, CallFacts, Configured}
+use Rattle.cells.proofs.Tested.{nat-of}
+use Rattle.cells.proofs.Facts.{Fields, ZeroFrom, ClassAt, StandsAt, Bound, Configured}
 use Rattle.cells.proofs.FromTest.{up-to-number}
 use Rattle.cells.proofs.CallFromTest.{counted-is}
 use Rattle.cells.proofs.ToTest.{standing-there}
-use Rattle.cells.proofs.Writes.{put, put-other, put-same, written-append}
+use Rattle.cells.proofs.Writes.{put, put-other, written-append}
 use Rattle.cells.proofs.Rows.{Rows, unwritten, wrote-call, wrote-object}
 use Rattle.cells.proofs.Changed.{call-among}
-use Rattle.cells.proofs.Rewritten.{call-at, LabelGoes, kept, rewritten}
+use Rattle.cells.proofs.Rewritten.{call-at, kept, rewritten}
 use Rattle.cells.proofs.Moves.{with-locals, advanced}
 use Rattle.cells.proofs.NewRows.{item-at}
 use Rattle.rules.specs.Exec.{stored}

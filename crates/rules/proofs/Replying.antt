@@ -8,7 +8,7 @@ use lib.IntN.{ℤ, pos}
 use Rattle.whole.specs.Plain.{onlyIf}
 use Rattle.whole.specs.Whole.{nat}
 use Rattle.whole.proofs.Both.{both-left}
-use Rattle.layout.specs.Layout.{Cells, written, read, objects, calls, ofObject, ofCall, class, stage}
+use Rattle.layout.specs.Layout.{Cells, written, read, objects, calls, ofCall, class, stage}
 use Rattle.layout.specs.Stages.{replied, taken, objectsInUse, rowsInUse, labelOf, isReply, inStage, replyFor, staged}
 use Rattle.model.specs.Model.{Model}
 use Rattle.cells.proofs.Tested.{no-some, nat-of}

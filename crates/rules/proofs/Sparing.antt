@@ -2,20 +2,20 @@
 use Prim.Native.Nat.{ℕ, _+_, _≤_, _<_}
 use mathlib.Core.Bool.{Bool, true, false}
 use mathlib.Core.List.{List, [], _∷_, _++_}
-use mathlib.Core.Option.{Option, none, some}
-use mathlib.Core.Path.{_≡_, refl, sym, ap, subst, fun-ext, _∙_}
+use mathlib.Core.Option.{none, some}
+use mathlib.Core.Path.{_≡_, refl, sym, ap, fun-ext, _∙_}
 use mathlib.Core.Logic.{_≢_}
 use native.Mathlib.Omega.{arith}
-use lib.IntN.{ℤ, pos}
+use lib.IntN.{ℤ}
 use lib.ListN.{length}
 use Rattle.whole.specs.Plain.{onlyIf}
-use Rattle.layout.specs.Layout.{Cells, Place, header, object, call, allCells, callRows, callCells, isRow, write, Write, written, ofCall, toObject, toCall, rowOf, rowFrom, newObject, newCall}
+use Rattle.layout.specs.Layout.{Cells, header, object, call, allCells, callRows, callCells, isRow, write, Write, written, ofCall, toObject, toCall, rowOf, rowFrom, newObject, newCall}
 use Rattle.layout.specs.Stages.{staged}
 use Rattle.layout.proofs.Laws.{read-write-other, length-written}
 use Rattle.terms.specs.declared.Variable.{Variable}
 use Rattle.terms.specs.declared.Variable.the-variants.{Attribute, Local}
 use Rattle.cells.proofs.Facts.{Fields}
-use Rattle.cells.proofs.Writes.{put, put-same, put-other, call-read, call-put, written-append, written-call}
+use Rattle.cells.proofs.Writes.{put-same, put-other, call-read, call-put, written-append, written-call}
 use Rattle.rules.specs.Exec.{stored, nextRow, withObject, withCall}
 
 -- no write is in the row of a call
