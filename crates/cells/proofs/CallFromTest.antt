@@ -21,7 +21,7 @@ use Rattle.model.specs.Bounds.{mostParams}
 use Rattle.model.specs.Model.{Model, Class, runs}
 use Rattle.cells.specs.Configuration.{is, zeroFrom, numbersHold, namedByCallee, unboundHolds, lineHolds, boundHolds, callerlessHolds, callHolds}
 use Rattle.cells.specs.Standing.{classOf, Standing, standingOf}
-use Rattle.cells.proofs.Tested.{passed-failed, Counts, Number, number, numbered, equals, equalled, nat-of, asked, otherwise}
+use Rattle.whole.proofs.Tested.{passed-failed, Counts, Number, number, numbered, equals, equalled, nat-of, asked, otherwise}
 use Rattle.cells.proofs.Facts.{ZeroFrom, ClassAt, Unbound, Bound, Callerless, CallHolds}
 use Rattle.cells.proofs.FromTest.{zeros, shape-is, class-at, stage-is, stages-are, stands-at}
 

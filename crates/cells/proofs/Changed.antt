@@ -11,11 +11,12 @@ use lib.IntN.{ℤ, pos}
 use Rattle.whole.specs.Whole.{nat}
 use Rattle.layout.specs.Layout.{Cells, objectRows, callRows, objects, calls, ofObject, ofCall, class, runningLabel, stage, caller, callee, method}
 use Rattle.layout.specs.Stages.{running, objectsInUse, rowsInUse}
+use Rattle.layout.proofs.Writes.{Fields}
 use Rattle.model.specs.Model.{Model}
-use Rattle.cells.proofs.Tested.{nat-of, counts-of}
-use Rattle.cells.proofs.Facts.{Fields, ObjectFacts, Bound, Callerless, CallFacts, ObjectHolds, CallHolds, Configured}
+use Rattle.whole.proofs.Tested.{nat-of, counts-of}
+use Rattle.cells.proofs.Facts.{ObjectFacts, Bound, Callerless, CallFacts, ObjectHolds, CallHolds, Configured}
 use Rattle.cells.proofs.CallFromTest.{counted-is}
-use Rattle.cells.proofs.Rows.{Rows}
+use Rattle.layout.proofs.Rows.{Rows}
 
 -- a call among more objects, where its callee has the same class and, if it runs, still names it
 pub call-among : (m : Model) (n n′ : ℕ) (k k′ label label′ : ℤ) (l : ℕ) (row : Fields) → CallFacts m n k label l row

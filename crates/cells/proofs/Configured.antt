@@ -13,7 +13,7 @@ use Rattle.layout.specs.Layout.{Cells, allCells, objectRows, callRows, read, ob
 use Rattle.layout.specs.Stages.{objectsInUse, rowsInUse}
 use Rattle.model.specs.Model.{Model}
 use Rattle.cells.specs.Configuration.{placeInUse, zeroUnless, objectHolds, callHolds, unusedHold, isConfiguration}
-use Rattle.cells.proofs.Tested.{number, numbered}
+use Rattle.whole.proofs.Tested.{number, numbered}
 use Rattle.cells.proofs.Facts.{Configured}
 use Rattle.cells.proofs.FromTest.{object-facts}
 use Rattle.cells.proofs.CallFromTest.{call-facts}

@@ -17,11 +17,8 @@ use Rattle.code.specs.Statements.{Code}
 use Rattle.code.specs.Reader.{lastMethod}
 use Rattle.model.specs.Bounds.{mostParams}
 use Rattle.model.specs.Model.{Model, Class, Method, runs}
-use Rattle.cells.proofs.Tested.{Counts, Number}
-
--- the cells of a row by their fields
-abbrev pub Fields : Type 0
-Fields = ℕ → ℤ
+use Rattle.layout.proofs.Writes.{Fields}
+use Rattle.whole.proofs.Tested.{Counts, Number}
 
 -- fields from one of a family on are 0
 abbrev pub ZeroFrom : ℕ → ℕ → (ℕ → ℤ) → Type 0

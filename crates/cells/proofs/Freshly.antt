@@ -16,12 +16,13 @@ use Rattle.model.specs.Model.{Model, runs}
 use Rattle.model.proofs.AcceptedAt.{starting}
 use Rattle.cells.specs.Configuration.{isConfiguration}
 use Rattle.cells.specs.Fresh.{fresh}
-use Rattle.cells.proofs.Tested.{nat-of, counts-of}
-use Rattle.cells.proofs.Facts.{Fields, ObjectHolds, CallHolds, Configured}
-use Rattle.cells.proofs.Writes.{call-read, object-read, written-append}
-use Rattle.cells.proofs.Rows.{Rows, valued, unwritten, counts-objects, counts-calls}
+use Rattle.whole.proofs.Tested.{nat-of, counts-of}
+use Rattle.cells.proofs.Facts.{ObjectHolds, CallHolds, Configured}
+use Rattle.layout.proofs.Writes.{Fields, call-read, object-read, written-append}
+use Rattle.layout.proofs.Rows.{Rows, valued, unwritten, counts-objects, counts-calls}
 use Rattle.cells.proofs.Rewritten.{call-holds, object-holds}
-use Rattle.cells.proofs.NewRows.{objectValues, callValues, wrote-new-object, wrote-new-call, new-object-facts, spawned-facts}
+use Rattle.layout.proofs.NewRows.{objectValues, callValues, wrote-new-object, wrote-new-call}
+use Rattle.cells.proofs.NewFacts.{new-object-facts, spawned-facts}
 use Rattle.cells.proofs.Configured.{passes}
 
 -- cells that are all 0

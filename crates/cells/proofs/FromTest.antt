@@ -20,7 +20,7 @@ use Rattle.code.specs.Blocks.{shapeNumber, isShape}
 use Rattle.model.specs.Model.{Model, Class, Method, takes, methodOf, bindsTo}
 use Rattle.cells.specs.Configuration.{is, zeroFrom, runningNamed, objectHolds}
 use Rattle.cells.specs.Standing.{classOf, bodyOf, Standing, standingOf}
-use Rattle.cells.proofs.Tested.{no-some, Number, number, equals, of-natural, nat-of, counts-of, asked, each-below, found}
+use Rattle.whole.proofs.Tested.{no-some, Number, number, equals, of-natural, nat-of, counts-of, asked, each-below, found}
 use Rattle.cells.proofs.Facts.{ZeroFrom, ClassAt, StandsAt, ObjectHolds}
 
 -- fields from one of a family on are 0

@@ -7,11 +7,8 @@ pub mod Facts
 pub mod Freshly
 pub mod FromTest
 pub mod Moves
-pub mod NewRows
+pub mod NewFacts
 pub mod Open
 pub mod Rewritten
-pub mod Rows
-pub mod Tested
 pub mod ToTest
 pub mod Unused
-pub mod Writes

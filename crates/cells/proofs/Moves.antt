@@ -15,9 +15,9 @@ use Rattle.layout.specs.Stages.{invoked, queued, bound, running, answered, repl
 use Rattle.code.specs.declared.Shape.the-variants as Shape
 use Rattle.code.specs.Blocks.{shapeOf, shapeNumber}
 use Rattle.model.specs.Model.{Model}
-use Rattle.cells.proofs.Tested.{Number, nat-of}
-use Rattle.cells.proofs.Facts.{Fields, ZeroFrom, StandsAt, Unbound, Bound, Callerless, CallFacts}
-use Rattle.cells.proofs.Writes.{put, put-other}
+use Rattle.whole.proofs.Tested.{Number, nat-of}
+use Rattle.cells.proofs.Facts.{ZeroFrom, StandsAt, Unbound, Bound, Callerless, CallFacts}
+use Rattle.layout.proofs.Writes.{Fields, put, put-other}
 
 -- a field before the locals leaves them
 pub locals-kept : (f : ℕ) (z : ℤ) (row : Fields) (from : ℕ) → f < Layout.local 0 → ZeroFrom mostLocals from (λ i. row (Layout.local i))

@@ -10,11 +10,12 @@ use lib.IntN.{ℤ, pos}
 use Rattle.whole.specs.Whole.{nat}
 use Rattle.layout.specs.Layout.{Cells, mostAttributes, read, objects, calls, ofObject, ofCall, class, runningLabel, attribute, stage, callee}
 use Rattle.layout.specs.Stages.{running, objectsInUse, rowsInUse}
+use Rattle.layout.proofs.Writes.{Fields}
 use Rattle.model.specs.Model.{Model, Class}
-use Rattle.cells.proofs.Tested.{Number, nat-of, counts-of}
-use Rattle.cells.proofs.Facts.{Fields, ZeroFrom, ClassAt, ObjectFacts, CallFacts, ObjectHolds, CallHolds, Configured}
+use Rattle.whole.proofs.Tested.{Number, nat-of, counts-of}
+use Rattle.cells.proofs.Facts.{ZeroFrom, ClassAt, ObjectFacts, CallFacts, ObjectHolds, CallHolds, Configured}
 use Rattle.cells.proofs.CallFromTest.{counted-is}
-use Rattle.cells.proofs.Rows.{Rows}
+use Rattle.layout.proofs.Rows.{Rows}
 use Rattle.cells.proofs.Changed.{call-among, object-among, Grows, Respects, changed}
 
 -- the two rows that were put, as the cells have them

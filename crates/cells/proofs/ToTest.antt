@@ -23,7 +23,7 @@ use Rattle.model.specs.Bounds.{mostParams}
 use Rattle.model.specs.Model.{Model, Class, Method, runs, takes, methodOf, bindsTo}
 use Rattle.cells.specs.Configuration.{is, zeroFrom, runningNamed, objectHolds, numbersHold, namedByCallee, unboundHolds, lineHolds, boundHolds, callerlessHolds, callHolds}
 use Rattle.cells.specs.Standing.{classOf, bodyOf, standingOf}
-use Rattle.cells.proofs.Tested.{passed-failed, Counts, Number, numbered, equals, equalled, natural-of, nat-of, asking, one-of, below-each}
+use Rattle.whole.proofs.Tested.{passed-failed, Counts, Number, numbered, equals, equalled, natural-of, nat-of, asking, one-of, below-each}
 use Rattle.cells.proofs.Facts.{ZeroFrom, ClassAt, StandsAt, Callerless, ObjectHolds, CallHolds}
 use Rattle.cells.proofs.FromTest.{stage-is, stages-are}
 use Rattle.cells.proofs.CallFromTest.{counted-is, in-stage, in-stages, below-first, past-last}

@@ -11,8 +11,8 @@ use lib.ListN.{length, getD}
 use Rattle.layout.specs.Layout.{Cells, Place, header, object, call, allCells, stands, cellOf, placeOf, read, ofObject, ofCall}
 use Rattle.layout.proofs.Laws.{standing, stood, cell-below, placed, place-cell, read-stood, read-none}
 use Rattle.cells.specs.Configuration.{is, placeInUse, zeroUnless}
-use Rattle.cells.proofs.Tested.{equals, equalled, otherwise, one-of, passed-failed}
-use Rattle.cells.proofs.Writes.{call-read, object-read}
+use Rattle.whole.proofs.Tested.{equals, equalled, otherwise, one-of, passed-failed}
+use Rattle.layout.proofs.Writes.{call-read, object-read}
 
 module _ (used : Place → Bool) where
   -- the pass, cell by cell

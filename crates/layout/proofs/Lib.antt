@@ -2,5 +2,9 @@
 mod Cases
 pub mod Fields
 pub mod Laws
+pub mod NewRows
 pub mod Numbers
 pub mod Open
+pub mod Rows
+pub mod Sparing
+pub mod Writes

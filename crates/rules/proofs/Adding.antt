@@ -15,13 +15,13 @@ use Rattle.code.specs.Reader.{lastMethod}
 use Rattle.model.specs.Accepted.{AcceptedModel}
 use Rattle.model.specs.Bounds.{mostParams}
 use Rattle.model.specs.Model.{Model, Class, runs}
-use Rattle.cells.proofs.Tested.{nat-of}
-use Rattle.cells.proofs.Facts.{Fields}
-use Rattle.cells.proofs.Writes.{written-append}
-use Rattle.cells.proofs.Rows.{Rows, valued, unwritten, counts-objects, counts-calls}
+use Rattle.whole.proofs.Tested.{nat-of}
+use Rattle.layout.proofs.Writes.{Fields, written-append}
+use Rattle.layout.proofs.Rows.{Rows, valued, unwritten, counts-objects, counts-calls}
 use Rattle.cells.proofs.Changed.{call-among, object-among, Grows, Respects, changed}
 use Rattle.cells.proofs.Rewritten.{call-at, call-holds, object-holds}
-use Rattle.cells.proofs.NewRows.{objectValues, callValues, wrote-new-object, wrote-new-call, new-object-facts, spawned-facts, invoked-facts}
+use Rattle.layout.proofs.NewRows.{objectValues, callValues, wrote-new-object, wrote-new-call}
+use Rattle.cells.proofs.NewFacts.{new-object-facts, spawned-facts, invoked-facts}
 use Rattle.rules.specs.Exec.{nextObject, nextRow, withObject, withCall}
 use Rattle.rules.proofs.Performing.{Performing, Still}
 

@@ -13,17 +13,18 @@ use Rattle.whole.specs.Refusals.{notInvoked, notQueued, noSuchMethod, notBound,
 use Rattle.whole.specs.Whole.{eqZ, nat}
 use Rattle.layout.specs.Layout.{Cells, Write, written, ofObject, ofCall, toObject, toCall, runningLabel, stage, callee, line}
 use Rattle.layout.specs.Stages.{invoked, queued, bound, running, answered, replied, rowsInUse, inStage, staged}
+use Rattle.layout.proofs.Writes.{Fields}
 use Rattle.model.specs.Model.{Model, Method}
 use Rattle.cells.specs.Standing.{bodyOf}
-use Rattle.cells.proofs.Tested.{nat-of}
-use Rattle.cells.proofs.Facts.{Fields, Configured}
+use Rattle.whole.proofs.Tested.{nat-of}
+use Rattle.cells.proofs.Facts.{Configured}
 use Rattle.cells.proofs.FromTest.{stage-is}
 use Rattle.rules.specs.Kinds.{Kind, exec, arrive, bind, start, deliver}
 use Rattle.rules.specs.Messages as Messages
 use Rattle.rules.specs.Next.{refused, moved}
 use Rattle.rules.proofs.Messaging.{writes-are, label-row}
 use Rattle.rules.proofs.Moved.{refused-moved, must-moved, working-moved}
-use Rattle.rules.proofs.Sparing.{Spares, spared, spares-stage, spares-object, spares-both, last-in-row, spared-after}
+use Rattle.layout.proofs.Sparing.{Spares, spared, spares-stage, spares-object, spares-both, last-in-row, spared-after}
 
 -- the stage that a call has before a rule of a kind moves it
 abbrev pub stageBefore : Kind → ℕ

@@ -21,12 +21,12 @@ use Rattle.code.specs.Blocks.{Block, untilElse, untilFi, untilOd, shapeOf, open
 use Rattle.code.specs.Partners.{ahead, goesFrom, goesTo}
 use Rattle.code.specs.Statements.{Code, skip, set, new, call, get, await, if, else, fi, while, od, return, mapStatement}
 use Rattle.code.proofs.Jumps.{partner-ahead, partner-behind}
+use Rattle.layout.proofs.Writes.{Fields}
 use Rattle.model.specs.Accepted.{AcceptedModel}
 use Rattle.model.specs.Model.{Model}
 use Rattle.model.proofs.AcceptedAt.{method-accepted}
 use Rattle.cells.specs.Standing.{shapesOf}
-use Rattle.cells.proofs.Tested.{nat-of}
-use Rattle.cells.proofs.Facts.{Fields}
+use Rattle.whole.proofs.Tested.{nat-of}
 use Rattle.cells.proofs.FromTest.{stage-is}
 use Rattle.rules.specs.Exec.{stored, nextRow, nextObject, objectLeft, rowLeft, classRuns, withObject, withCall, here, workedOut, onward, jumped, assigned, made, created, issued, tookReply, freed, crossed, suspended, awaited, branched, stageReturned, returned, performed}
 use Rattle.rules.specs.Kinds.{exec}
@@ -38,7 +38,8 @@ use Rattle.rules.proofs.Messaging.{writes-are, label-row}
 use Rattle.rules.proofs.Moved.{refused-moved, must-moved, working-moved, all-moved}
 use Rattle.rules.proofs.Performing.{Performing, standing}
 use Rattle.rules.proofs.Replying.{reply-is}
-use Rattle.rules.proofs.Sparing.{Spares, spared, spares-both, spares-call, spares-stage, spares-object, spares-stored, spares-new-object, spares-new-call, last-in-row, other-in-row, spared-after}
+use Rattle.layout.proofs.Sparing.{Spares, spared, spares-both, spares-call, spares-stage, spares-object, last-in-row, other-in-row, spared-after}
+use Rattle.rules.proofs.Spared.{spares-stored, spares-new-object, spares-new-call}
 
 -- a line that goes elsewhere than to the next one, or may
 abbrev turns : Shape → Bool

@@ -29,12 +29,12 @@ use Rattle.model.specs.Bounds.{mostParams}
 use Rattle.model.specs.Model.{Model, Class, runs}
 use Rattle.model.proofs.AcceptedAt.{class-accepted, method-accepted, line-accepted, jump-inside, onward-inside}
 use Rattle.cells.specs.Standing.{shapesOf}
-use Rattle.cells.proofs.Tested.{no-some}
+use Rattle.whole.proofs.Tested.{no-some}
 use Rattle.cells.proofs.Facts.{Configured}
 use Rattle.cells.proofs.CallFromTest.{counted-is}
 use Rattle.cells.proofs.FromTest.{up-to-number}
 use Rattle.cells.proofs.Rewritten.{call-at}
-use Rattle.cells.proofs.Writes.{written-append}
+use Rattle.layout.proofs.Writes.{written-append}
 use Rattle.rules.specs.Exec.{stored, nextObject, nextRow, objectLeft, rowLeft, classRuns, withObject, withCall, here, onward, jumped, made, created, issued, tookReply, crossed, suspended, freed, awaited, branched}
 use Rattle.rules.specs.Next.{refused, moved, must}
 use Rattle.rules.proofs.Adding.{object-added, both-added, call-added}

@@ -18,7 +18,7 @@ use Rattle.code.specs.Statements.{Statement, skip, set, new, call, get, await, 
 use Rattle.model.specs.Model.{Model}
 use Rattle.cells.specs.Configuration.{isConfiguration}
 use Rattle.cells.specs.Standing.{Standing, bodyOf, standingOf}
-use Rattle.cells.proofs.Tested.{no-some}
+use Rattle.whole.proofs.Tested.{no-some}
 use Rattle.cells.proofs.Facts.{Configured}
 use Rattle.cells.proofs.Configured.{configured}
 use Rattle.rules.specs.declared.Choice.{Choice}

@@ -21,7 +21,7 @@ use Rattle.model.proofs.AcceptedAt.{class-accepted, new-accepted}
 use Rattle.cells.specs.Configuration.{isConfiguration}
 use Rattle.cells.proofs.Facts.{Configured}
 use Rattle.cells.proofs.Configured.{configured, passes}
-use Rattle.cells.proofs.NewRows.{item-at}
+use Rattle.cells.proofs.NewFacts.{item-at}
 use Rattle.rules.specs.declared.Choice.{Choice}
 use Rattle.rules.specs.Exec.{here, workedOut, onward, jumped, assigned, created, issued, freed, awaited, branched, returned, performed}
 use Rattle.rules.specs.Exec as Exec

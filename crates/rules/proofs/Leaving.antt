@@ -12,11 +12,11 @@ use Rattle.code.specs.declared.Shape.the-variants as Shape
 use Rattle.code.specs.Blocks.{shapeOf}
 use Rattle.model.specs.Model.{Model}
 use Rattle.cells.specs.Standing.{Standing}
-use Rattle.cells.proofs.Tested.{nat-of, equalled, passed-failed}
-use Rattle.cells.proofs.Facts.{Fields, CallFacts, Configured}
+use Rattle.whole.proofs.Tested.{nat-of, equalled, passed-failed}
+use Rattle.cells.proofs.Facts.{CallFacts, Configured}
 use Rattle.cells.proofs.CallFromTest.{counted-is}
-use Rattle.cells.proofs.Writes.{put, written-append}
-use Rattle.cells.proofs.Rows.{Rows, unwritten, wrote-call, wrote-stage, wrote-object}
+use Rattle.layout.proofs.Writes.{Fields, put, written-append}
+use Rattle.layout.proofs.Rows.{Rows, unwritten, wrote-call, wrote-stage, wrote-object}
 use Rattle.cells.proofs.Rewritten.{call-at, freed, rewritten}
 use Rattle.cells.proofs.Moves.{suspended, returned}
 use Rattle.rules.specs.Exec.{stageReturned}

@@ -16,4 +16,4 @@ pub mod Open
 pub mod Performing
 pub mod Replying
 pub mod Scene
-pub mod Sparing
+pub mod Spared

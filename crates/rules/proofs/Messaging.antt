@@ -16,14 +16,14 @@ use Rattle.model.specs.Accepted.{AcceptedModel}
 use Rattle.model.specs.Model.{Model, Method}
 use Rattle.model.proofs.AcceptedAt.{method-accepted}
 use Rattle.cells.specs.Standing.{bodyOf}
-use Rattle.cells.proofs.Tested.{equals, nat-of}
-use Rattle.cells.proofs.Facts.{Fields, ZeroFrom, StandsAt, CallFacts, Configured}
+use Rattle.whole.proofs.Tested.{equals, nat-of}
+use Rattle.cells.proofs.Facts.{ZeroFrom, StandsAt, CallFacts, Configured}
 use Rattle.cells.proofs.FromTest.{stage-is, body-at}
-use Rattle.cells.proofs.Writes.{put, put-other, written-append}
-use Rattle.cells.proofs.Rows.{unwritten, wrote-stage, wrote-object}
+use Rattle.layout.proofs.Writes.{Fields, put, put-other, written-append}
+use Rattle.layout.proofs.Rows.{unwritten, wrote-stage, wrote-object}
 use Rattle.cells.proofs.Rewritten.{call-at, kept, taken-up, rewritten}
 use Rattle.cells.proofs.Moves.{arrived, went-on, bound-now, started}
-use Rattle.cells.proofs.NewRows.{item-at}
+use Rattle.cells.proofs.NewFacts.{item-at}
 use Rattle.rules.specs.Messages as Messages
 use Rattle.rules.specs.Next.{refused, moved}
 use Rattle.rules.proofs.Moved.{refused-moved, must-moved, working-moved}

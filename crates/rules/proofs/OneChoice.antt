@@ -12,11 +12,12 @@ use lib.IntN.{ℤ, pos, negsuc}
 use Rattle.whole.specs.Whole.{nat}
 use Rattle.layout.specs.Layout.{Cells, Write, written, ofCall, stage, line}
 use Rattle.layout.specs.Stages.{replied, upTo}
+use Rattle.layout.proofs.Writes.{Fields}
 use Rattle.model.specs.Accepted.{AcceptedModel}
 use Rattle.model.specs.Model.{Model}
 use Rattle.cells.specs.Configuration.{isConfiguration}
-use Rattle.cells.proofs.Tested.{no-some}
-use Rattle.cells.proofs.Facts.{Fields, Configured}
+use Rattle.whole.proofs.Tested.{no-some}
+use Rattle.cells.proofs.Facts.{Configured}
 use Rattle.cells.proofs.FromTest.{up-to-number}
 use Rattle.cells.proofs.CallFromTest.{counted-is}
 use Rattle.cells.proofs.Configured.{configured}

@@ -18,17 +18,17 @@ use Rattle.terms.specs.Within.{VariableWithin}
 use Rattle.code.specs.Statements.{Code}
 use Rattle.model.specs.Model.{Model, Class}
 use Rattle.cells.specs.Standing.{Standing, standingOf}
-use Rattle.cells.proofs.Tested.{nat-of}
-use Rattle.cells.proofs.Facts.{Fields, ZeroFrom, ClassAt, StandsAt, Bound, Configured}
+use Rattle.whole.proofs.Tested.{nat-of}
+use Rattle.cells.proofs.Facts.{ZeroFrom, ClassAt, StandsAt, Bound, Configured}
 use Rattle.cells.proofs.FromTest.{up-to-number}
 use Rattle.cells.proofs.CallFromTest.{counted-is}
 use Rattle.cells.proofs.ToTest.{standing-there}
-use Rattle.cells.proofs.Writes.{put, put-other, written-append}
-use Rattle.cells.proofs.Rows.{Rows, unwritten, wrote-call, wrote-object}
+use Rattle.layout.proofs.Writes.{Fields, put, put-other, written-append}
+use Rattle.layout.proofs.Rows.{Rows, unwritten, wrote-call, wrote-object}
 use Rattle.cells.proofs.Changed.{call-among}
 use Rattle.cells.proofs.Rewritten.{call-at, kept, rewritten}
 use Rattle.cells.proofs.Moves.{with-locals, advanced}
-use Rattle.cells.proofs.NewRows.{item-at}
+use Rattle.cells.proofs.NewFacts.{item-at}
 use Rattle.rules.specs.Exec.{stored}
 
 -- an object's running call, and where it stands

@@ -10,11 +10,11 @@ use Rattle.whole.specs.Whole.{nat}
 use Rattle.whole.proofs.Both.{both-left}
 use Rattle.layout.specs.Layout.{Cells, written, read, objects, calls, ofCall, class, stage}
 use Rattle.layout.specs.Stages.{replied, taken, objectsInUse, rowsInUse, labelOf, isReply, inStage, replyFor, staged}
+use Rattle.layout.proofs.Writes.{Fields}
 use Rattle.model.specs.Model.{Model}
-use Rattle.cells.proofs.Tested.{no-some, nat-of}
-use Rattle.cells.proofs.Facts.{Fields}
+use Rattle.whole.proofs.Tested.{no-some, nat-of}
 use Rattle.cells.proofs.FromTest.{up-to-number, stage-is}
-use Rattle.cells.proofs.Rows.{unwritten, wrote-stage}
+use Rattle.layout.proofs.Rows.{unwritten, wrote-stage}
 use Rattle.rules.proofs.Adding.{objects-counted, calls-counted}
 use Rattle.rules.proofs.Messaging.{label-row, taken-keeps}
 use Rattle.rules.proofs.Performing.{Performing, Still}

@@ -4,3 +4,4 @@ pub mod Each
 pub mod Open
 pub mod Ranges
 pub mod Tables
+pub mod Tested

@@ -10,9 +10,12 @@ use lib.Dec.{eqb, ltb}
 use lib.IntN.{ℤ}
 use lib.ListN.{length}
 use Rattle.whole.specs.Plain.{onlyIf}
-use Rattle.layout.specs.Layout.{Cells, header, object, call, headerCells, objectRows, objectCells, callRows, callCells, allCells, isRow, stands, read, write, Write, written, ofObject, ofCall, toObject, toCall, rowOf}
-use Rattle.layout.proofs.Laws.{read-none, write-none, read-write-same, read-write-other}
-use Rattle.cells.proofs.Facts.{Fields}
+use Rattle.layout.specs.Layout.{Cells, Place, header, object, call, headerCells, objectRows, objectCells, callRows, callCells, allCells, isRow, stands, read, write, Write, written, ofObject, ofCall, toObject, toCall, rowOf}
+use Rattle.layout.proofs.Laws.{Stands, read-none, write-none, read-write-same, read-write-other}
+
+-- the cells of a row by their fields
+abbrev pub Fields : Type 0
+Fields = ℕ → ℤ
 
 -- a row with one field put anew
 abbrev pub put : ℕ → ℤ → Fields → Fields
@@ -91,24 +94,23 @@ header-call e = let z : _≡_ {A = ℕ} 0 1 = cc in omega arith
 header-object : {i o f : ℕ} → header i ≢ object o f
 header-object e = let z : _≡_ {A = ℕ} 0 1 = cc in omega arith
 
--- a row of cells by its places, with one place of it written
+-- a row of places, each of another field, with one of them written
+row-put : (d : Cells) (z : ℤ) (row : ℕ → Place) (f : ℕ) → ((g : ℕ) → g ≢ f → row g ≢ row f) → Stands (row f) → length d ≡ allCells
+    → (g : ℕ) → read (write d (row f) z) (row g) ≡ put f z (λ g. read d (row g)) g
+row-put d z row f differ stand full g = go (eqb g f) refl
+  where
+    go : (t : Bool) → eqb g f ≡ t → read (write d (row f) z) (row g) ≡ put f z (λ g. read d (row g)) g
+    go true e = rw (e, put) (ap (λ h. read (write d (row f) z) (row h)) (eqb-true g f e) ∙ read-write-same d (row f) z stand full)
+    go false e = rw (e, put) (read-write-other d (row f) z (row g) (differ g (eqb-false g f e)))
+
+-- cells with one place written: each row, and the counts
 module _ (d : Cells) (full : length d ≡ allCells) (z : ℤ) where
   -- a field of a call is put: its row, another call's row, an object's row, the header
   module _ (l f : ℕ) where
     pub call-put : 1 ≤ l → l ≤ callRows → f < callCells → ofCall (write d (call l f) z) l ≡ put f z (ofCall d l)
-    call-put a b h = fun-ext (λ g. go g (eqb g f) refl)
-      where
-        go : (g : ℕ) (t : Bool) → eqb g f ≡ t → ofCall (write d (call l f) z) l g ≡ put f z (ofCall d l) g
-        go g true e =
-            let s : g ≡ f = eqb-true g f e in
-            call-read _ l g
-            ∙ ap (λ h. read (write d (call l f) z) (call l h)) s
-            ∙ read-write-same d (call l f) z (a, b, h) full
-            ∙ sym (ap (put f z (ofCall d l)) s ∙ put-same f z (ofCall d l))
-        go g false e =
-            call-read _ l g
-            ∙ read-write-other d (call l f) z (call l g) (call-fields-differ (eqb-false g f e))
-            ∙ sym (put-other f z (ofCall d l) g (eqb-false g f e) ∙ call-read d l g)
+    call-put a b h =
+        fun-ext (λ g. call-read _ l g ∙ row-put d z (call l) f (λ g n. call-fields-differ n) (a, b, h) full g)
+        ∙ ap (put f z) (fun-ext (λ g. sym (call-read d l g)))
 
     pub call-other : (l′ : ℕ) → l′ ≢ l → ofCall (write d (call l f) z) l′ ≡ ofCall d l′
     call-other l′ n = fun-ext (λ g. call-read _ l′ g ∙ read-write-other d (call l f) z (call l′ g) (calls-differ n) ∙ sym (call-read d l′ g))
@@ -122,19 +124,9 @@ module _ (d : Cells) (full : length d ≡ allCells) (z : ℤ) where
   -- a field of an object is put
   module _ (o f : ℕ) where
     pub object-put : 1 ≤ o → o ≤ objectRows → f < objectCells → ofObject (write d (object o f) z) o ≡ put f z (ofObject d o)
-    object-put a b h = fun-ext (λ g. go g (eqb g f) refl)
-      where
-        go : (g : ℕ) (t : Bool) → eqb g f ≡ t → ofObject (write d (object o f) z) o g ≡ put f z (ofObject d o) g
-        go g true e =
-            let s : g ≡ f = eqb-true g f e in
-            object-read _ o g
-            ∙ ap (λ h. read (write d (object o f) z) (object o h)) s
-            ∙ read-write-same d (object o f) z (a, b, h) full
-            ∙ sym (ap (put f z (ofObject d o)) s ∙ put-same f z (ofObject d o))
-        go g false e =
-            object-read _ o g
-            ∙ read-write-other d (object o f) z (object o g) (object-fields-differ (eqb-false g f e))
-            ∙ sym (put-other f z (ofObject d o) g (eqb-false g f e) ∙ object-read d o g)
+    object-put a b h =
+        fun-ext (λ g. object-read _ o g ∙ row-put d z (object o) f (λ g n. object-fields-differ n) (a, b, h) full g)
+        ∙ ap (put f z) (fun-ext (λ g. sym (object-read d o g)))
 
     pub object-other : (o′ : ℕ) → o′ ≢ o → ofObject (write d (object o f) z) o′ ≡ ofObject d o′
     object-other o′ n =

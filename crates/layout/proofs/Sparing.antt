@@ -9,14 +9,10 @@ use native.Mathlib.Omega.{arith}
 use lib.IntN.{ℤ}
 use lib.ListN.{length}
 use Rattle.whole.specs.Plain.{onlyIf}
-use Rattle.layout.specs.Layout.{Cells, header, object, call, allCells, callRows, callCells, isRow, write, Write, written, ofCall, toObject, toCall, rowOf, rowFrom, newObject, newCall}
+use Rattle.layout.specs.Layout.{Cells, header, object, call, allCells, callRows, callCells, isRow, write, Write, written, ofCall, toObject, toCall, rowOf, rowFrom}
 use Rattle.layout.specs.Stages.{staged}
 use Rattle.layout.proofs.Laws.{read-write-other, length-written}
-use Rattle.terms.specs.declared.Variable.{Variable}
-use Rattle.terms.specs.declared.Variable.the-variants.{Attribute, Local}
-use Rattle.cells.proofs.Facts.{Fields}
-use Rattle.cells.proofs.Writes.{put-same, put-other, call-read, call-put, written-append, written-call}
-use Rattle.rules.specs.Exec.{stored, nextRow, withObject, withCall}
+use Rattle.layout.proofs.Writes.{Fields, put-same, put-other, call-read, call-put, written-append, written-call}
 
 -- no write is in the row of a call
 abbrev pub Spares : List Write → ℕ → Type 0
@@ -37,7 +33,7 @@ spares-both [] vs l h k = k
 spares-both (u ∷ us) vs l h k = (h .0, spares-both us vs l (h .1) k)
 
 -- places of other kinds, and of other rows
-header-not : {i l f : ℕ} → header i ≢ call l f
+pub header-not : {i l f : ℕ} → header i ≢ call l f
 header-not e = let z : _≡_ {A = ℕ} 0 1 = cc in omega arith
 
 object-not : {o g l f : ℕ} → object o g ≢ call l f
@@ -47,7 +43,7 @@ call-not : {r g l f : ℕ} → l ≢ r → call r g ≢ call l f
 call-not {r} {l = l} n e = n (let s : l ≡ r = cc in s)
 
 module _ (l : ℕ) where
-  -- a value for a field of another call, its stage, a field of an object, a variable
+  -- a value for a field of another call, its stage, a field of an object
   pub spares-call : (c : Cells) (r f : ℕ) (z : ℤ) → l ≢ r → Spares (toCall c r f z) l
   unfolding toCall rowOf onlyIf
   spares-call c r f z n = go (isRow callRows r)
@@ -64,29 +60,16 @@ module _ (l : ℕ) where
   unfolding toObject
   spares-object o f z = (λ g. object-not, tt)
 
-  pub spares-stored : (c : Cells) (o r : ℕ) (x : Variable) (z : ℤ) → l ≢ r → Spares (stored c o r x z) l
-  unfolding stored
-  spares-stored c o r (Attribute i) z n = spares-object o _ z
-  spares-stored c o r (Local i) z n = spares-call c r _ z n
-
   -- the row of an object, and of another call
-  object-from : (o f : ℕ) (zs : List ℤ) → Spares (rowFrom (object o) f zs) l
+  pub spares-object-from : (o f : ℕ) (zs : List ℤ) → Spares (rowFrom (object o) f zs) l
   unfolding rowFrom
-  object-from o f [] = tt
-  object-from o f (z ∷ zs) = (λ g. object-not, object-from o (f + 1) zs)
+  spares-object-from o f [] = tt
+  spares-object-from o f (z ∷ zs) = (λ g. object-not, spares-object-from o (f + 1) zs)
 
-  call-from : (r f : ℕ) (zs : List ℤ) → l ≢ r → Spares (rowFrom (call r) f zs) l
+  pub spares-call-from : (r f : ℕ) (zs : List ℤ) → l ≢ r → Spares (rowFrom (call r) f zs) l
   unfolding rowFrom
-  call-from r f [] n = tt
-  call-from r f (z ∷ zs) n = (λ g. call-not n, call-from r (f + 1) zs n)
-
-  pub spares-new-object : (c : Cells) (k label : ℕ) (zs : List ℤ) → Spares (withObject c k label zs) l
-  unfolding withObject newObject
-  spares-new-object c k label zs = (λ g. header-not, object-from _ _ _)
-
-  pub spares-new-call : (c : Cells) (s by to j : ℕ) (zs : List ℤ) → l ≢ nextRow c → Spares (withCall c s by to j zs) l
-  unfolding withCall newCall
-  spares-new-call c s by to j zs n = (λ g. header-not, call-from _ _ _ n)
+  spares-call-from r f [] n = tt
+  spares-call-from r f (z ∷ zs) n = (λ g. call-not n, spares-call-from r (f + 1) zs n)
 
 -- a field of a call, written last in its row
 module _ (c : Cells) (full : length c ≡ allCells) (l : ℕ) (low : 1 ≤ l) (high : l ≤ callRows) where

@@ -10,11 +10,10 @@ use borrow.Author.Tests.{ltb-true, ltb-false, le-ltb}
 use lib.Dec.{ltb}
 use lib.IntN.{ℤ, pos}
 use lib.ListN.{length, getD, List·getD-eq-default}
 use Rattle.layout.specs.Layout.{Cells, object, call, objectRows, objectCells, callRows, callCells, allCells, isRow, stands, read, write, written, objects, calls, ofObject, ofCall, toObject, toCall, rowFrom, stage}
 use Rattle.layout.specs.Stages.{staged}
 use Rattle.layout.proofs.Laws.{read-none, length-write}
-use Rattle.cells.proofs.Facts.{Fields}
-use Rattle.cells.proofs.Writes.{put, put-other, put-same, call-read, object-read, written-call, written-object, call-put, call-other, call-object, call-header, object-put, object-other, object-call-row, object-header, header-put, header-other, header-call-row, header-object-row}
+use Rattle.layout.proofs.Writes.{Fields, put, put-other, put-same, call-read, object-read, written-call, written-object, call-put, call-other, call-object, call-header, object-put, object-other, object-call-row, object-header, header-put, header-other, header-call-row, header-object-row}
 
 -- cells that are others with counts n and r, with one call row and one object row
 pub record Rows (c d : Cells) (n r : ℤ) (l o : ℕ) (row its : Fields) : Type 0 where

@@ -1,4 +1,4 @@
--- What the tests of a configuration say: a cell is a number between bounds, a test is asked under a condition, of each number of a range.
+-- What tests say: a number lies between bounds, a test is asked under a condition, of each number of a range.
 -- Each law is stated both ways. Assumes nothing.
 use Prim.Native.Nat.{ℕ, zero, suc, _≤_, _<_}
 use mathlib.Core.Bool.{Bool, true, false, _||_, false≢true}
