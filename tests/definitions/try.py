@@ -4,7 +4,7 @@
     tests/definitions/try.py [WORD..]
 
 tries those of wrong.txt, or those whose first line has one of the words. It works in a copy of the repository from which
-the code of crate `model` and its proofs are taken out, so that a definition stands against its tables of cases alone, and
+code and laws of the crates that are tried are taken out, so that a definition stands against its tables of cases alone, and
 says for each wrong definition which table refuses it. Exit status 0: every one fell. It is no part of the gate.
 """
 import pathlib
@@ -16,7 +16,9 @@ import tempfile
 
 HERE = pathlib.Path(__file__).resolve().parent
 ROOT = HERE.parent.parent
-KEPT = ("Cases", "TextBounds", "Open", "Session")
+# The crates whose definitions are tried, and the proof files that are tables of cases or serve them.
+TRIED = ("model", "cells", "rules", "engine", "session")
+KEPT = ("Bounds", "Cases", "Open", "Orders", "Scene", "Session", "TextBounds")
 
 
 def blocks():
@@ -30,24 +32,30 @@ def blocks():
             yield lines[0], one["crate"], one["file"], list(zip(*put))
 
 
-def copied(to):
-    """A copy of the repository's crates with the code of `model` taken out."""
-    shutil.copytree(ROOT / "crates", to / "crates")
-    shutil.copy(ROOT / "crates.txt", to / "crates.txt")
-    if (ROOT / "target").is_dir():
-        shutil.copytree(ROOT / "target", to / "target")
-    model = to / "crates" / "model"
-    for path in (model / "src").glob("*.rt"):
+def stripped(crate):
+    """A crate with its definitions and tables of cases alone."""
+    for path in (crate / "src").glob("*.rt"):
         if path.name != "lib.rt":
             path.unlink()
-    library = model / "src" / "lib.rt"
+    library = crate / "src" / "lib.rt"
     library.write_text(re.sub(r"^pub mod .*\n", "", library.read_text(encoding="utf-8"), flags=re.M), encoding="utf-8")
-    for path in (model / "proofs").iterdir():
+    for path in (crate / "proofs").iterdir():
         if path.is_dir():
             shutil.rmtree(path)
         elif path.stem not in KEPT:
             path.unlink()
-    (model / "proofs" / "Lib.antt").write_text("".join(f"pub mod {name}\n" for name in KEPT), encoding="utf-8")
+    kept = sorted(path.stem for path in (crate / "proofs").glob("*.antt"))
+    (crate / "proofs" / "Lib.antt").write_text("".join(f"pub mod {name}\n" for name in kept), encoding="utf-8")
+
+
+def copied(to):
+    """A copy of the repository's crates, those that are tried stripped of code and laws."""
+    shutil.copytree(ROOT / "crates", to / "crates")
+    shutil.copy(ROOT / "crates.txt", to / "crates.txt")
+    if (ROOT / "target").is_dir():
+        shutil.copytree(ROOT / "target", to / "target")
+    for name in TRIED:
+        stripped(to / "crates" / name)
 
 
 def checked(root, crate):

@@ -6,26 +6,25 @@ use mathlib.Core.Option.{Option, none, some}
 use mathlib.Core.Path.{_≡_, refl, sym, ap, subst, _∙_}
 use native.Mathlib.Omega.{arith}
 use lib.Dec.{eqb}
-use lib.ListN.{length, getD, set, take, drop, length-take, length-drop}
+use lib.ListN.{length, set, take, drop, length-take, length-drop}
 use lib.Seq.{getD-set-same}
-use Rattle.terms.specs.Bytes.{Text, bytes}
+use Rattle.terms.specs.Bytes.{Text}
 use Rattle.terms.specs.Parsed.{Parsed, got, bad}
 use Rattle.terms.specs.Trees.{trees, guardTrees}
 use Rattle.whole.specs.Refusals.{wrongCode, wrongBlocks}
-use Rattle.code.specs.Blocks.{Block, shapeOf, shapeNumber, through}
+use Rattle.code.specs.Blocks.{Block, shapeOf, through}
 use Rattle.code.specs.Reader.{statement}
-use Rattle.code.specs.Statements.{Code, newOf}
-use Rattle.model.specs.declared.At.{At}
+use Rattle.code.specs.Statements.{Code}
 use Rattle.model.specs.declared.MethodHead.{MethodHead}
 use Rattle.model.specs.declared.Row.{Row}
 use Rattle.model.specs.declared.Stated.{Stated}
 use Rattle.model.specs.InOrder.{Taken, wrong, right}
-use Rattle.model.specs.ModelText.{SoFar, creationsOf, mayStand, standing, codeLine}
+use Rattle.model.specs.ModelText.{SoFar, creationsOf, mayStand, standing}
 use Rattle.model.specs.Vocabulary.Belonging.{valueIn, CodeTold, ShapeTold, LineTold}
-use Rattle.model.specs.Vocabulary.Creations.{creationTold, creationsIn, newNumber}
+use Rattle.model.specs.Vocabulary.Creations.{creationsIn}
 use Rattle.model.specs.Vocabulary.Readings.{soFar, LineLeft}
 use Rattle.model.specs.Vocabulary.Standing.{stood, limitsOf, codeTaken, CodeIs}
-use Rattle.model.specs.Vocabulary.Table.{Table, Sized, put, rowAt, codeRow, tableSize, Same}
+use Rattle.model.specs.Vocabulary.Table.{Table, Sized, put, rowAt, codeRow, Same}
 use Rattle.model.proofs.CreationRows.{creation-told, in-more}
 use Rattle.model.proofs.Framing.{same-line, news-kept}
 use Rattle.model.proofs.TableRows.{row-own}

@@ -22,7 +22,7 @@ use Rattle.code.specs.Blocks.{Block, isShape, shapeOf, shapeNumber, through}
 use Rattle.code.specs.Reader.{statement}
 use Rattle.code.specs.Statements.{Code, newOf}
 use Rattle.code.specs.Vocabulary.Creating.{newSaid}
-use Rattle.code.specs.Vocabulary.OpenBlocks.{packedBlocks, shapeSaid}
+use Rattle.code.specs.Vocabulary.OpenBlocks.{packedBlocks}
 use Rattle.code.specs.Vocabulary.Readers.{statementRead}
 use Rattle.code.proofs.NewCounts.{new-class, new-count}
 use Rattle.code.proofs.OpenBlocks.{packed-none, packed-deep}
@@ -31,7 +31,7 @@ use Rattle.model.specs.declared.CodeFound.{CodeFound}
 use Rattle.model.specs.declared.CodeFound.the-variants as Found
 use Rattle.model.specs.declared.MethodHead.{MethodHead}
 use Rattle.model.specs.declared.Stated.{Stated}
-use Rattle.model.specs.InOrder.{wrong, right}
+use Rattle.model.specs.InOrder.{wrong}
 use Rattle.model.specs.ModelText.{mayStand}
 use Rattle.model.specs.Vocabulary.Creations.{newNumber}
 use Rattle.model.specs.Vocabulary.Standing.{stood, limitsOf, codeTaken, CodeIs, CodeSaid}

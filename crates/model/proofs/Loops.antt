@@ -1,13 +1,12 @@
 -- So many of a thing, read one after another while the table is filled: what is left to read decides. Assumes nothing.
-use Prim.Native.Nat.{ℕ, _+_, _-_, _*_, _≤_, _<_}
-use mathlib.Core.Bool.{Bool, true}
+use Prim.Native.Nat.{ℕ, _+_, _-_, _≤_, _<_}
+use mathlib.Core.Bool.{true}
 use mathlib.Core.List.{List, [], _∷_, _++_}
 use mathlib.Core.Path.{_≡_, refl, sym, ap, subst, _∙_}
 use native.Mathlib.Nat.{add-zero}
 use native.Mathlib.Omega.{arith}
 use borrow.Author.Tests.{eq-eqb}
-use lib.Dec.{eqb}
-use lib.ListN.{length, drop}
+use lib.ListN.{length}
 use Rattle.terms.specs.Bytes.{Text}
 use Rattle.code.specs.Blocks.{Block}
 use Rattle.code.specs.Statements.{Code}
@@ -18,8 +17,7 @@ use Rattle.model.specs.declared.MethodHead.{MethodHead}
 use Rattle.model.specs.declared.Read.{Read}
 use Rattle.model.specs.declared.Read.the-variants as Read
 use Rattle.model.specs.declared.Verdict.{Verdict}
-use Rattle.model.specs.InOrder.{LinesRead, failed, after, Reader, each}
-use Rattle.model.specs.Lines.{lines}
+use Rattle.model.specs.InOrder.{LinesRead, failed, Reader, each}
 use Rattle.model.specs.ModelText.{SoFar, mayStand, codeLine}
 use Rattle.model.specs.Vocabulary.Belonging.{LineTold}
 use Rattle.model.specs.Vocabulary.Readings.{Placed, readAt, Tells, soFar, between, LineLeft, Left, CodeLeft}

@@ -13,7 +13,7 @@ use Rattle.model.specs.declared.Row.{Row}
 use Rattle.model.specs.Model.{Method, Class}
 use Rattle.model.specs.ModelText.{SoFar}
 use Rattle.model.specs.Vocabulary.Belonging.{LineTold, MethodTold, ClassTold}
-use Rattle.model.specs.Vocabulary.Readings.{between, Left, CodeLeft, MethodLeft, MethodsLeft, ClassLeft}
+use Rattle.model.specs.Vocabulary.Readings.{between, CodeLeft, MethodLeft, MethodsLeft, ClassLeft}
 use Rattle.model.specs.Vocabulary.Standing.{limitsOf}
 use Rattle.model.specs.Vocabulary.Table.{Table, Rows, Same, put, classRow, methodRow, tableSize}
 use Rattle.model.proofs.Framing.{same-less, same-then, same-class, same-method, lines-kept, methods-kept, classes-kept, news-kept}

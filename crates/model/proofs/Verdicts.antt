@@ -16,8 +16,8 @@ use Rattle.model.specs.InOrder.{failed, after, _>>=_}
 use Rattle.model.specs.Judge.{Judged, refusal, model, givenTo, countsJudged, endJudged, judged, verdictOf, judge}
 use Rattle.model.specs.Lines.{Line, lines, sound, longestText}
 use Rattle.model.specs.Model.{Class, Model}
-use Rattle.model.specs.ModelText.{Creation, SoFar, readModel}
-use Rattle.model.specs.Vocabulary.Belonging.{CodeTold, ShapeTold, LineTold, ClassTold, Belongs, Shaped}
+use Rattle.model.specs.ModelText.{Creation, SoFar}
+use Rattle.model.specs.Vocabulary.Belonging.{LineTold, ClassTold, Belongs, Shaped}
 use Rattle.model.specs.Vocabulary.Creations.{GivenTold}
 use Rattle.model.specs.Vocabulary.Readings.{readAt, begin, readHead}
 use Rattle.model.specs.Vocabulary.Table.{Table, Rows, rowAt, classRow}

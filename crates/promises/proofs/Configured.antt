@@ -11,7 +11,7 @@ use Rattle.layout.specs.Layout.{Cells, allCells, read, calls, ofObject, ofCall,
 use Rattle.layout.specs.Stages.{running, objectsInUse, rowsInUse, stageOf}
 use Rattle.model.specs.Model.{Model}
 use Rattle.cells.specs.Configuration.{isConfiguration}
-use Rattle.cells.proofs.Tested.{nat-of}
+use Rattle.whole.proofs.Tested.{nat-of}
 use Rattle.cells.proofs.Facts.{ObjectHolds}
 use Rattle.cells.proofs.Configured.{configured}
 use Rattle.promises.specs.Lives.{Issued}

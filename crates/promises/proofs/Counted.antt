@@ -14,7 +14,7 @@ use Rattle.layout.proofs.Laws.{length-written}
 use Rattle.layout.proofs.Open.{layout-open}
 use Rattle.model.specs.Model.{Model}
 use Rattle.cells.specs.Fresh.{fresh}
-use Rattle.cells.proofs.Writes.{written-append}
+use Rattle.layout.proofs.Writes.{written-append}
 use Rattle.rules.specs.declared.Choice.{Choice}
 use Rattle.rules.specs.Events.{Event, eventsOf, firstEvents}
 use Rattle.rules.specs.Exec.{stored, nextObject, nextRow, withObject, withCall, onward}

@@ -20,7 +20,7 @@ use Rattle.model.specs.Model.{Model}
 use Rattle.cells.specs.Configuration.{isConfiguration}
 use Rattle.cells.specs.Standing.{Standing}
 use Rattle.cells.proofs.Configured.{configured}
-use Rattle.cells.proofs.Writes.{written-append}
+use Rattle.layout.proofs.Writes.{written-append}
 use Rattle.rules.specs.declared.Choice.{Choice}
 use Rattle.rules.specs.Events.{Event, issuing, spawning, arriving, binding, returning, delivering, taking}
 use Rattle.rules.specs.Exec.{here, stored, nextObject, nextRow, withObject, withCall, onward, freed, stageReturned}

@@ -17,12 +17,12 @@ use Rattle.terms.specs.declared.Variable.the-variants.{Attribute, Local}
 use Rattle.terms.specs.Values.{held}
 use Rattle.model.specs.Model.{Model}
 use Rattle.cells.specs.Standing.{Standing}
-use Rattle.cells.proofs.Facts.{Fields}
-use Rattle.cells.proofs.NewRows.{objectValues, callValues, wrote-new-object, wrote-new-call}
-use Rattle.cells.proofs.Rows.{Rows, unwritten, valued, counts-objects, counts-calls, wrote-call, wrote-object}
-use Rattle.cells.proofs.Writes.{put-same, written-append}
+use Rattle.layout.proofs.Writes.{Fields}
+use Rattle.layout.proofs.NewRows.{objectValues, callValues, wrote-new-object, wrote-new-call}
+use Rattle.layout.proofs.Rows.{Rows, unwritten, valued, counts-objects, counts-calls, wrote-call, wrote-object}
+use Rattle.layout.proofs.Writes.{put-same, written-append}
 use Rattle.rules.specs.Exec.{here, stored, nextObject, nextRow, objectLeft, rowLeft, withObject, withCall, onward}
-use Rattle.rules.proofs.Sparing.{last-in-row, other-in-row}
+use Rattle.layout.proofs.Sparing.{last-in-row, other-in-row}
 use Rattle.promises.proofs.Spared.{scratch, ownField}
 use Rattle.promises.proofs.Untouched.{AtOnly, untouched, field-kept}
 

@@ -17,7 +17,7 @@ use Rattle.terms.specs.declared.Variable.the-variants.{Attribute, Local}
 use Rattle.code.specs.Statements.{get}
 use Rattle.model.specs.Model.{Model}
 use Rattle.cells.specs.Standing.{Standing}
-use Rattle.cells.proofs.Tested.{one-of}
+use Rattle.whole.proofs.Tested.{one-of}
 use Rattle.rules.specs.declared.Choice.{Choice}
 use Rattle.rules.specs.Events.{Event, performing}
 use Rattle.rules.specs.Exec.{stored, nextObject, nextRow, withObject, withCall, onward, jumped, crossed, suspended, freed, stageReturned}

@@ -17,14 +17,14 @@ use Rattle.cells.specs.Configuration.{isConfiguration}
 use Rattle.cells.specs.Standing.{Standing}
 use Rattle.cells.proofs.Configured.{configured}
 use Rattle.cells.proofs.FromTest.{stage-is}
-use Rattle.cells.proofs.Writes.{written-append}
+use Rattle.layout.proofs.Writes.{written-append}
 use Rattle.rules.specs.declared.Choice.{Choice}
 use Rattle.rules.specs.Events.{Event, issuing, spawning, arriving, binding, returning, delivering, taking}
 use Rattle.rules.specs.Exec.{stored, nextObject, nextRow, withObject, withCall, onward, suspended, freed, stageReturned}
 use Rattle.rules.specs.Kinds.{Kind}
 use Rattle.rules.specs.Messages.{started}
 use Rattle.rules.proofs.Messaging.{label-row}
-use Rattle.rules.proofs.Sparing.{last-in-row}
+use Rattle.layout.proofs.Sparing.{last-in-row}
 use Rattle.promises.specs.Histories.{subject, about}
 use Rattle.promises.specs.Lives.{Issued, issuedBy}
 use Rattle.promises.proofs.Acts.{Act, Chosen, goes, jumps, stores, crosses, creates, spawns, issues, takes, suspends, returns, arrives, binds, starts, delivers}

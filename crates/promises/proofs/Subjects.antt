@@ -27,9 +27,10 @@ use Rattle.model.specs.Accepted.{AcceptedModel}
 use Rattle.model.specs.Model.{Model}
 use Rattle.cells.specs.Configuration.{isConfiguration}
 use Rattle.cells.specs.Standing.{Standing}
-use Rattle.cells.proofs.Tested.{no-some, equals}
+use Rattle.whole.proofs.Tested.{no-some}
+use Rattle.whole.proofs.Tested.{equals}
 use Rattle.cells.proofs.Configured.{configured}
-use Rattle.cells.proofs.Writes.{written-append}
+use Rattle.layout.proofs.Writes.{written-append}
 use Rattle.rules.specs.declared.Choice.{Choice}
 use Rattle.rules.specs.Events as Events
 use Rattle.rules.specs.Events.{taking}

@@ -8,7 +8,7 @@ use lib.IntN.{ℤ}
 use Rattle.whole.specs.Plain.{onlyIf}
 use Rattle.layout.specs.Layout.{Cells, Place, object, call, callRows, isRow, read, write, Write, written, rowOf, ofCall, toCall, toObject, rowFrom}
 use Rattle.layout.proofs.Laws.{read-write-other}
-use Rattle.cells.proofs.Writes.{call-read}
+use Rattle.layout.proofs.Writes.{call-read}
 
 -- writes at places of a sort alone
 abbrev pub AtOnly : (Place → Bool) → List Write → Type 0

@@ -6,7 +6,6 @@ use mathlib.Core.Path.{_≡_}
 use lib.Dec.{ltb, eqb}
 use lib.ListN.{length, take, drop}
 use Rattle.terms.specs.Bytes.{Text, bytes}
-use Rattle.terms.specs.declared.Limits.{Limits}
 use Rattle.code.specs.Blocks.{Block}
 use Rattle.code.specs.Statements.{Code}
 use Rattle.code.specs.Vocabulary.OpenBlocks.{packedBlocks}

@@ -1,10 +1,8 @@
 -- `model::code_lines::may_stand` meets its contract. Assumes nothing.
-use mathlib.Core.Bool.{Bool, true, false}
-use mathlib.Core.List.{List}
 use mathlib.Core.Path.{_≡_, sym, ap, _∙_}
 use borrow.Author.Needs.{needs}
 use borrow.Author.Tests.{ne-eqb}
-use Rattle.code.specs.Blocks.{Block, shapeOf, shapeNumber}
+use Rattle.code.specs.Blocks.{shapeOf, shapeNumber}
 use Rattle.code.specs.Statements.{Code}
 use Rattle.code.specs.declared.Shape.the-variants as Shape
 use Rattle.model.specs.ModelText.{mayStand}

@@ -1,6 +1,5 @@
 -- `model::methods::all_lines` meets its contract. The invariant: what is left of the code lines decides. Assumes nothing.
 use Prim.Native.Nat.{_-_}
-use native.Mathlib.Omega.{arith}
 use borrow.Author.Needs.{needs}
 use Rattle.model.specs.Vocabulary.Readings.{Tells}
 use Rattle.model.specs.Vocabulary.Table.{Sized}

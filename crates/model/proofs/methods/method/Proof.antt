@@ -5,7 +5,6 @@ use mathlib.Core.Path.{_≡_, refl, sym, ap, _∙_}
 use native.Mathlib.Omega.{arith}
 use denote.Ref.{now}
 use lib.Dec.{eqb}
-use Rattle.layout.specs.Layout.{mostLocals}
 use Rattle.terms.specs.Bytes.{bytes}
 use Rattle.model.specs.Bounds.{mostParams, mostLines, allLines}
 use Rattle.model.specs.InOrder.{LinesRead, _>>=_, numberLine}
