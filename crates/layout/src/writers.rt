@@ -6,7 +6,7 @@ ghost use mathlib.Core.List.{[], _∷_};
 ghost use mathlib.Core.Path.{_≡_};
 ghost use Prim.Native.Nat.{_+_, _≤_};
 ghost use lib.IntN.{pos};
-ghost use lib.ListN.{length};
+ghost use lib.ListN.{length, set};
 ghost use Rattle.layout.specs.Layout as Layout;
 ghost use Rattle.layout.specs.Stages as Stages;
 ghost use Rattle.layout.specs.Vocabulary.Found as Found;
@@ -56,17 +56,24 @@ pub fn to_stage(cells: &mut [i32], l: Label, stage: u8)
     to_call(cells, l, crate::STAGE, stage as i32)
 }
 
+// A count put in its cell.
+fn to_count(cells: &mut [i32], at: usize, count: u8)
+    ensures { λ _. ⌜ now (cells .exit) ≡ set (now (cells .entry)) at (pos count) ⌝ }
+{
+    put(cells, CellFound::At(at), count as i32)
+}
+
 // How many objects, and how many calls, there are from now on.
 pub fn to_objects(cells: &mut [i32], count: u8)
     ensures { λ _. ⌜ now (cells .exit) ≡ Layout.written (now (cells .entry)) ((Layout.objects, pos count) ∷ []) ⌝ }
 {
-    put(cells, CellFound::At(crate::OBJECTS), count as i32)
+    to_count(cells, crate::OBJECTS, count)
 }
 
 pub fn to_calls(cells: &mut [i32], count: u8)
     ensures { λ _. ⌜ now (cells .exit) ≡ Layout.written (now (cells .entry)) ((Layout.calls, pos count) ∷ []) ⌝ }
 {
-    put(cells, CellFound::At(crate::CALLS), count as i32)
+    to_count(cells, crate::CALLS, count)
 }
 
 // The fields of a row put anew from one on, where so many rows of so many cells stand from a first cell on.

@@ -1,30 +1,18 @@
 -- `layout::writers::to_objects` meets its contract. Assumes nothing.
-use denote.Ref.{now}
-use lib.ListN.{set}
-use mathlib.Core.Path.{ap, _∙_}
-use mir.Syntax.{w32}
-use mir.ValLaws.{toZ-pos}
-use native.Mathlib.Omega.{arith}
 use Rattle.layout.specs.Layout.{written, write, stands, cellOf}
-use Rattle.layout.specs.Vocabulary.Found.{putAt}
 use borrow.Author.Needs.{needs}
 use Rattle.layout.proofs.writers.to_objects.Statement.{statement}
 use Rattle.layout.proofs.writers.to_objects.Tie as tie
 
-cast-put : tie.Need-cast-put
-cast-put c = search needs
-
-put-requires : tie.Need-put-requires
-put-requires c κs = search needs
+to-count-requires : tie.Need-to-count-requires
+to-count-requires c κs = search needs
 
 same-length : tie.Need-same-length
 same-length c = search needs
 
 returns : tie.Need-returns
-unfolding written write stands cellOf putAt
-returns c =
-    let a = c .before .before .before in
-    c .before .put .ensures ∙ ap (set (now (a .args .cells)) 0) (toZ-pos w32 (a .args .count) (omega (arith, a .fits .count)))
+unfolding written write stands cellOf
+returns c = c .before .to-count .ensures
 
 pub to-objects-spec : {M : Type 1} → statement M
-to-objects-spec = tie.close (tie.spec cast-put put-requires same-length returns)
+to-objects-spec = tie.close (tie.spec to-count-requires same-length returns)
