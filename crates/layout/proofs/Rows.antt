@@ -157,7 +157,18 @@ object-past d o f h = object-read d o f ∙ read-none d (object o f) (go (isRow 
     go true = le-ltb f objectCells h
     go false = refl
 
--- all the values of a row
+-- all the values of a row, whose fields past its width read as 0
+all-put : (width : ℕ) (zs : List ℤ) (row got : Fields) → length zs ≡ width → got ≡ puts 0 zs row → ((f : ℕ) → width ≤ f → got f ≡ pos 0) → got ≡ valued zs
+all-put width zs row got k w past = fun-ext (λ f. at f (ltb f width) refl)
+  where
+    at : (f : ℕ) (b : Bool) → ltb f width ≡ b → got f ≡ valued zs f
+    at f true e =
+        let z : f ≡ 0 + f = omega arith in
+        ap (λ (row : Fields). row f) w ∙ ap (puts 0 zs row) z ∙ puts-at 0 zs row f (omega (arith, ltb-true f width e))
+    at f false e =
+        let wide = ltb-false f width e in
+        past f wide ∙ sym (List·getD-eq-default zs (pos 0) {n = f} (omega arith))
+
 module _ (c d : Cells) (n r : ℤ) (l o : ℕ) (row its : Fields) (h : Rows c d n r l o row its) (zs : List ℤ) where
   pub wrote-call-row : 1 ≤ l → l ≤ callRows → length zs ≡ callCells → Rows c (written d (rowFrom (call l) 0 zs)) n r l o (valued zs) its
   wrote-call-row a b k =
@@ -166,20 +177,11 @@ module _ (c d : Cells) (n r : ℤ) (l o : ℕ) (row its : Fields) (h : Rows c d 
         length = w .length;
         objects = w .objects;
         calls = w .calls;
-        call = fun-ext (λ f. at f (ltb f callCells) refl (w .call));
+        call = all-put callCells zs row _ k (w .call) (call-past _ l);
         object = w .object;
         other-call = w .other-call;
         other-object = w .other-object;
       }
-    where
-      at : (f : ℕ) (b : Bool) → ltb f callCells ≡ b → ofCall (written d (rowFrom (call l) 0 zs)) l ≡ puts 0 zs row
-          → ofCall (written d (rowFrom (call l) 0 zs)) l f ≡ valued zs f
-      at f true e w =
-          let z : f ≡ 0 + f = omega arith in
-          ap (λ (row : Fields). row f) w ∙ ap (puts 0 zs row) z ∙ puts-at 0 zs row f (omega (arith, ltb-true f callCells e))
-      at f false e w =
-          let past = ltb-false f callCells e in
-          call-past (written d (rowFrom (call l) 0 zs)) l f past ∙ sym (List·getD-eq-default zs (pos 0) {n = f} (omega arith))
 
   pub wrote-object-row : 1 ≤ o → o ≤ objectRows → length zs ≡ objectCells → Rows c (written d (rowFrom (object o) 0 zs)) n r l o row (valued zs)
   wrote-object-row a b k =
@@ -189,16 +191,7 @@ module _ (c d : Cells) (n r : ℤ) (l o : ℕ) (row its : Fields) (h : Rows c d 
         objects = w .objects;
         calls = w .calls;
         call = w .call;
-        object = fun-ext (λ f. at f (ltb f objectCells) refl (w .object));
+        object = all-put objectCells zs its _ k (w .object) (object-past _ o);
         other-call = w .other-call;
         other-object = w .other-object;
       }
-    where
-      at : (f : ℕ) (b : Bool) → ltb f objectCells ≡ b → ofObject (written d (rowFrom (object o) 0 zs)) o ≡ puts 0 zs its
-          → ofObject (written d (rowFrom (object o) 0 zs)) o f ≡ valued zs f
-      at f true e w =
-          let z : f ≡ 0 + f = omega arith in
-          ap (λ (row : Fields). row f) w ∙ ap (puts 0 zs its) z ∙ puts-at 0 zs its f (omega (arith, ltb-true f objectCells e))
-      at f false e w =
-          let past = ltb-false f objectCells e in
-          object-past (written d (rowFrom (object o) 0 zs)) o f past ∙ sym (List·getD-eq-default zs (pos 0) {n = f} (omega arith))

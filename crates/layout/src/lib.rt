@@ -1,6 +1,8 @@
 // The cells of a configuration by named places: object numbers and labels, their fields, and whose reply is in.
 ghost use mathlib.Core.Path.{_≡_};
 ghost use Prim.Native.Nat.{_≤_};
+ghost use lib.IntN.{pos};
+ghost use lib.ListN.{getD};
 ghost use Rattle.whole.specs.Whole as Whole;
 ghost use Rattle.layout.specs.Layout as Layout;
 ghost use Rattle.layout.specs.Stages as Stages;
@@ -140,12 +142,19 @@ pub fn of_call(cells: &[i32], l: Label, field: u16) -> i32
     cell(cells, call_cell(cells, l, field))
 }
 
+// A number from 1 to the count in a cell.
+fn is_counted(cells: &[i32], at: usize, z: i32) -> bool
+    ensures { λ r. ⌜ r ≡ Whole.between (pos 1) (getD (now (cells .entry)) at (pos 0)) z ⌝ }
+{
+    whole::between(1, cell(cells, CellFound::At(at)), z)
+}
+
 // A number as an object's in use, among so few that a byte holds them.
 pub fn object_of(cells: &[i32], z: i32) -> ObjectFound
     requires { ⌜ Stages.objectsInUse (now cells) ≤ 255 ⌝ }
     ensures { λ r. ⌜ r ≡ Found.asObject (Stages.objectOf (now (cells .entry)) z) ⌝ }
 {
-    if whole::between(1, cell(cells, CellFound::At(OBJECTS)), z) {
+    if is_counted(cells, OBJECTS, z) {
         ObjectFound::At(ObjectNumber(z as u8))
     } else {
         ObjectFound::Nothing
@@ -156,7 +165,7 @@ pub fn object_of(cells: &[i32], z: i32) -> ObjectFound
 pub fn label_of(cells: &[i32], z: i32) -> LabelFound
     ensures { λ r. ⌜ r ≡ Found.asLabel (Stages.labelOf (now (cells .entry)) z) ⌝ }
 {
-    if whole::between(1, cell(cells, CellFound::At(CALLS)), z) {
+    if is_counted(cells, CALLS, z) {
         LabelFound::At(Label(z as u32))
     } else {
         LabelFound::Nothing
