@@ -15,10 +15,6 @@ row-same : (x y : Row) → x .0 ≡ y .0 → x .1 ≡ y .1 → x .2 ≡ y .2 →
 row-same x y e₀ e₁ e₂ e₃ = rw (e₀, e₁, e₂, e₃)
 
 module _ (t : Table) (r : ℕ) (x : Row) where
-  pub put-length : length (put t r x) ≡ length t
-  unfolding put
-  put-length = simp length-set
-
   -- a row that was put stands in its place
   pub row-own : length t ≡ tableSize → r < rows → rowAt (put t r x) r ≡ x
   unfolding rowAt put
