@@ -8,3 +8,4 @@ pub mod Open
 pub mod Rows
 pub mod Sparing
 pub mod Writes
+pub mod Zeros

@@ -1,4 +1,5 @@
 // The cells of a configuration by named places: object numbers and labels, their fields, and whose reply is in.
+use whole::Natural;
 ghost use mathlib.Core.Path.{_≡_};
 ghost use Prim.Native.Nat.{_≤_};
 ghost use lib.IntN.{pos};
@@ -8,6 +9,8 @@ ghost use Rattle.layout.specs.Layout as Layout;
 ghost use Rattle.layout.specs.Stages as Stages;
 ghost use Rattle.layout.specs.Vocabulary.Found as Found;
 
+pub mod stages;
+pub mod unused;
 pub mod writers;
 
 // "Object numbers and labels are counted apart, and neither stands in for the other." Each is made from a cell only after its test.
@@ -56,19 +59,31 @@ const CALL_ROWS: u32 = 128;
 
 const CALL_CELLS: u16 = 16;
 
-// Fields of an object row and of a call row; attributes and locals stand from one on.
+// Fields of an object row: "class, running label, a0..a7".
+pub const CLASS: u16 = 0;
+
+pub const RUNNING_LABEL: u16 = 1;
+
 pub const ATTRIBUTE: u16 = 2;
 
+// Fields of a call row: "stage, caller, callee, method, args, line (from 0), cleared, value, v0..v7".
 pub const STAGE: u16 = 0;
 
 pub const CALLER: u16 = 1;
 
+pub const CALLEE: u16 = 2;
+
+pub const METHOD: u16 = 3;
+
+pub const ARGS: u16 = 4;
+
+pub const LINE: u16 = 5;
+
 pub const CLEARED: u16 = 6;
 
-pub const LOCAL: u16 = 8;
+pub const VALUE: u16 = 7;
 
-// A stage: "6 reply in".
-const REPLIED: u32 = 6;
+pub const LOCAL: u16 = 8;
 
 // What stands in a cell that was found; one that is not there reads as 0.
 fn cell(cells: &[i32], found: CellFound) -> i32
@@ -142,6 +157,29 @@ pub fn of_call(cells: &[i32], l: Label, field: u16) -> i32
     cell(cells, call_cell(cells, l, field))
 }
 
+// The count in a cell.
+fn count(cells: &[i32], at: usize) -> usize
+    ensures { λ r. ⌜ r ≡ Whole.nat (getD (now (cells .entry)) at (pos 0)) ⌝ }
+{
+    match whole::as_natural(cell(cells, CellFound::At(at))) {
+        Natural::Is(n) => n,
+        Natural::Not => 0,
+    }
+}
+
+// How many objects, and how many call rows, are in use.
+pub fn objects_in_use(cells: &[i32]) -> usize
+    ensures { λ r. ⌜ r ≡ Stages.objectsInUse (now (cells .entry)) ⌝ }
+{
+    count(cells, OBJECTS)
+}
+
+pub fn rows_in_use(cells: &[i32]) -> usize
+    ensures { λ r. ⌜ r ≡ Stages.rowsInUse (now (cells .entry)) ⌝ }
+{
+    count(cells, CALLS)
+}
+
 // A number from 1 to the count in a cell.
 fn is_counted(cells: &[i32], at: usize, z: i32) -> bool
     ensures { λ r. ⌜ r ≡ Whole.between (pos 1) (getD (now (cells .entry)) at (pos 0)) z ⌝ }
@@ -176,7 +214,7 @@ pub fn label_of(cells: &[i32], z: i32) -> LabelFound
 fn is_reply(cells: &[i32], o: ObjectNumber, l: Label) -> bool
     ensures { λ r. ⌜ r ≡ Stages.isReply (now (cells .entry)) (o .0) (l .0) ⌝ }
 {
-    if whole::is_number(of_call(cells, l, STAGE), REPLIED) {
+    if stages::in_stage(cells, l, stages::REPLIED) {
         whole::is_number(of_call(cells, l, CALLER), o.0 as u32)
     } else {
         false

@@ -15,7 +15,7 @@ use native.Mathlib.Nat.{mul-le-mul}
 use Rattle.whole.specs.declared.Natural.the-variants.{Is, Not}
 use Rattle.whole.specs.declared.Operator.{Operator}
 use Rattle.whole.specs.declared.Worked.the-variants.{Value, OutOfRange}
-use Rattle.whole.specs.Whole.{inRange, within, eqZ, apply, natural}
+use Rattle.whole.specs.Whole.{inRange, within, eqZ, apply, natural, nat}
 use Rattle.whole.specs.Vocabulary.Naturals.{asNatural}
 
 -- below the least, above the largest, and neither
@@ -116,6 +116,11 @@ pub natural-not : (z : ℤ) (n : ℕ) → asNatural (natural z) ≡ Not → eqZ 
 unfolding asNatural natural eqZ
 natural-not (pos k) n e = cc
 natural-not (negsuc k) n e = refl
+
+pub nat-not : (z : ℤ) → asNatural (natural z) ≡ Not → nat z ≡ 0
+unfolding asNatural natural nat
+nat-not (pos k) e = cc
+nat-not (negsuc k) e = refl
 
 -- a result that was handed on reads back as what it is known to be
 pub handed : (r z : ℤ) → mag r < 2147483648 → r ≡ z → toZ w32 (ofZ w32 r) ≡ z

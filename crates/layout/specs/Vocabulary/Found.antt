@@ -1,12 +1,13 @@
 -- Vocabulary of the code: what the definitions may find, as its enums, and a cell that was found. Assumes nothing.
 use Prim.Native.Nat.{ℕ, _+_, _-_, _*_}
-use mathlib.Core.Bool.{_&&_}
+use mathlib.Core.Bool.{Bool, true, false, _&&_}
 use mathlib.Core.List.{List, [], _∷_}
 use mathlib.Core.Option.{Option, none, some}
 use lib.Dec.{ltb}
 use lib.IntN.{ℤ, pos}
-use lib.ListN.{getD, set}
+use lib.ListN.{getD, set, take, drop}
 use Rattle.whole.specs.Plain.{onlyIf}
+use Rattle.whole.specs.Whole.{eqZ}
 use Rattle.layout.specs.declared.CellFound.{CellFound}
 use Rattle.layout.specs.declared.CellFound.the-variants as Cell
 use Rattle.layout.specs.declared.LabelFound.{LabelFound}
@@ -57,3 +58,11 @@ putAt c (Cell.At i) z = set c i z
 unfoldable pub rowTo : ℕ → ℕ → ℕ → Cells → ℕ → ℕ → List ℤ → Cells
 rowTo first rows width c r f [] = c
 rowTo first rows width c r f (z ∷ zs) = rowTo first rows width (putAt c (asCell (fieldCell first rows width r f)) z) r (f + 1) zs
+
+-- every cell of a list is 0, and of cells every one from one on and before another
+unfoldable pub zeros : Cells → Bool
+zeros [] = true
+zeros (z ∷ zs) = elim (eqZ z (pos 0)) [ true ↦ zeros zs | false ↦ false ]
+
+unfoldable pub zerosIn : Cells → ℕ → ℕ → Bool
+zerosIn c from to = zeros (take (to - from) (drop from c))

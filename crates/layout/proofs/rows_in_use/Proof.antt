@@ -1,0 +1,16 @@
+-- `layout::rows_in_use` meets its contract. Assumes nothing.
+use borrow.Author.Needs.{needs}
+use Rattle.layout.specs.Layout.{read, stands, cellOf}
+use Rattle.layout.specs.Stages.{rowsInUse}
+use Rattle.layout.proofs.rows_in_use.Statement.{statement}
+use Rattle.layout.proofs.rows_in_use.Tie as tie
+
+count-requires : tie.Need-count-requires
+count-requires c κs = search needs
+
+returns : tie.Need-returns
+unfolding rowsInUse read stands cellOf
+returns c = c .count .ensures
+
+pub rows-in-use-spec : {M : Type 1} → statement M
+rows-in-use-spec = tie.close (tie.spec count-requires returns)
