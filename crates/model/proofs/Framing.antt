@@ -12,7 +12,7 @@ use Rattle.model.specs.declared.Row.{Row}
 use Rattle.model.specs.Vocabulary.Belonging.{CodeTold, ShapeTold, LineTold, MethodTold, ClassTold}
 use Rattle.model.specs.Vocabulary.Creations.{creationsFrom, creationsIn}
 use Rattle.model.specs.Model.{Method, Class}
-use Rattle.model.specs.Vocabulary.Table.{Table, rowAt, put, classRow, methodRow, codeRow, Rows, Same}
+use Rattle.model.specs.Vocabulary.Table.{Table, rowAt, put, classRow, methodRow, codeRow, modelRow, Rows, Same}
 use Rattle.model.proofs.TableRows.{row-other, rows-keep}
 
 -- a table and itself
@@ -63,6 +63,15 @@ module _ (t : Table) (x : List ℕ) (r : Row) (k m l : ℕ) where
     line = λ i g. row-other t (codeRow at) r (codeRow i) (λ e. omega arith);
     shape = λ i g. getD-set-other x at i shape 0 (λ e. omega arith);
   }
+
+-- the model's own row: all others are as they were
+pub same-model : (t : Table) (x : List ℕ) (r : Row) → Same t x (put t modelRow r) x 16 128 512
+same-model t x r = record {
+  class = λ i g. row-other t modelRow r (classRow i) (λ e. omega arith);
+  method = λ i j g. row-other t modelRow r (methodRow i j) (λ e. omega arith);
+  line = λ i g. row-other t modelRow r (codeRow i) (λ e. omega arith);
+  shape = λ i g. refl;
+}
 
 -- what is told of a text by a table is told by another that has the same rows
 module _ (s : Text) (all : ℕ) {t u : Table} {x y : List ℕ} {k m l : ℕ} (a : Same t x u y k m l) where

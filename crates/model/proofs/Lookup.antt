@@ -1,4 +1,4 @@
--- What parts above look up in the table of a text, without opening it: the counts of a class and of a method, and the bytes of a code line.
+-- What parts above look up in the table of a text, without opening it: the number of classes, the counts of a class and of a method, and the bytes of a code line.
 -- Assumes nothing.
 use Prim.Native.Nat.{ℕ, _+_, _≤_}
 use mathlib.Core.Option.{some}
@@ -13,14 +13,19 @@ use Rattle.code.specs.Statements.{Code}
 use Rattle.model.specs.Vocabulary.Belonging.{valueIn, CodeTold, MethodTold, ClassTold, Belongs}
 use Rattle.model.specs.Bounds.{allLines, mostMethods}
 use Rattle.model.specs.Model.{Method, Class, Model}
-use Rattle.model.specs.Vocabulary.Table.{Table, rowAt, classRow, methodRow, codeRow}
+use Rattle.model.specs.Vocabulary.Table.{Table, rowAt, classRow, methodRow, codeRow, classesIn}
 use Rattle.model.proofs.TableRows.{rows-at}
 
--- a text, the table that belongs to it, the model that it gives, and a class of it
+-- a text, the table that belongs to it, and the model that it gives: how many classes it has
+pub classes-at : (s : Text) (t : Table) (m : Model) → Belongs s t m → classesIn t ≡ length m
+unfolding Belongs
+classes-at s t m b = b .0
+
+-- and a class of it
 module _ (s : Text) (t : Table) (m : Model) (b : Belongs s t m) (k : ℕ) (c : Class) (e : getElem? m k ≡ some c) where
   class-told : ClassTold t allLines (CodeTold s (length m) t) k c
   unfolding Belongs
-  class-told = subst (λ n. ClassTold t allLines (CodeTold s (length m) t) n c) (zero-add k) (rows-at _ 0 m k c b e)
+  class-told = subst (λ n. ClassTold t allLines (CodeTold s (length m) t) n c) (zero-add k) (rows-at _ 0 m k c (b .1) e)
 
   pub attrs-at : rowAt t (classRow k) .0 ≡ c .attrs
   unfolding ClassTold

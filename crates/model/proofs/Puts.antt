@@ -1,4 +1,4 @@
--- The rows of methods and classes: a row that is put tells what was read, and joins the others. Assumes nothing.
+-- The rows of methods, classes and the model: a row that is put tells what was read, and joins the others. Assumes nothing.
 use Prim.Native.Nat.{ℕ, _+_, _*_, _≤_, _<_}
 use mathlib.Core.List.{List, [], _∷_, _++_}
 use mathlib.Core.Path.{_≡_, refl, sym, ap, subst, _∙_}
@@ -10,13 +10,13 @@ use Rattle.code.specs.Statements.{Code}
 use Rattle.model.specs.declared.ClassHead.{ClassHead}
 use Rattle.model.specs.declared.MethodHead.{MethodHead}
 use Rattle.model.specs.declared.Row.{Row}
-use Rattle.model.specs.Model.{Method, Class}
+use Rattle.model.specs.Model.{Method, Class, Model}
 use Rattle.model.specs.ModelText.{SoFar}
 use Rattle.model.specs.Vocabulary.Belonging.{LineTold, MethodTold, ClassTold}
-use Rattle.model.specs.Vocabulary.Readings.{between, CodeLeft, MethodLeft, MethodsLeft, ClassLeft}
+use Rattle.model.specs.Vocabulary.Readings.{between, CodeLeft, MethodLeft, MethodsLeft, ClassLeft, ClassesLeft}
 use Rattle.model.specs.Vocabulary.Standing.{limitsOf}
-use Rattle.model.specs.Vocabulary.Table.{Table, Rows, Same, put, classRow, methodRow, tableSize}
-use Rattle.model.proofs.Framing.{same-less, same-then, same-class, same-method, lines-kept, methods-kept, classes-kept, news-kept}
+use Rattle.model.specs.Vocabulary.Table.{Table, Rows, Same, put, classRow, methodRow, modelRow, classesIn, tableSize}
+use Rattle.model.proofs.Framing.{same-less, same-then, same-class, same-method, same-model, lines-kept, methods-kept, classes-kept, news-kept}
 use Rattle.model.proofs.TableRows.{row-own, rows-append}
 
 -- what is carried by another table with the same code rows
@@ -120,3 +120,26 @@ module _ (s : Text) (t : Table) (x : List ℕ) (u : Table) (y : List ℕ) (sized
     kept = same-then (same-less k (8 * k) total (l .kept) (omega arith) (omega arith) (omega arith)) class-same (omega arith) (omega arith) (omega (arith, l .more, l .most));
     told = class-told l;
   })
+
+-- the model's own row
+abbrev modelPut : ℕ → Row
+modelPut count = record { 0 = count; 1 = 0; 2 = 0; 3 = 0 }
+
+pub classes-put : (u : Table) → length u ≡ tableSize → (count : ℕ) (w : Table) → w ≡ put u modelRow (modelPut count) → classesIn w ≡ count
+unfolding classesIn
+classes-put u sized count w e = ap (λ q. classesIn q) e ∙ ap (λ (r : Row). r .0) (row-own u modelRow (modelPut count) sized (omega arith))
+
+-- a text whose classes are all read, and that row
+pub model-put : (s : Text) (t : Table) (x : List ℕ) (u : Table) (y : List ℕ) (count n : ℕ) (got : Model × SoFar) → count ≤ 16
+    → (w : Table) → w ≡ put u modelRow (modelPut count) → ClassesLeft s t x u y count got n → ClassesLeft s t x w y count got n
+model-put s t x u y count n got few w e l =
+    let v = put u modelRow (modelPut count) in
+    let same = same-model u y (modelPut count) in
+    let size : length (got .0) ≡ count = l .told .0 in
+    subst (λ q. ClassesLeft s t x q y count got n) (sym e) (record {
+      so = l .so ∙ between-kept u y v y _ _ 512 n same (l .most);
+      more = l .more;
+      most = l .most;
+      kept = same-then (l .kept) same (omega arith) (omega arith) (omega arith);
+      told = (size, classes-kept s count same n n (omega (arith, l .most)) (omega arith) (got .0) (omega arith) (omega arith) (l .told .1));
+    })

@@ -20,7 +20,7 @@ use Rattle.model.specs.ModelText.{Creation, SoFar}
 use Rattle.model.specs.Vocabulary.Belonging.{LineTold, ClassTold, Belongs, Shaped}
 use Rattle.model.specs.Vocabulary.Creations.{GivenTold}
 use Rattle.model.specs.Vocabulary.Readings.{readAt, begin, readHead}
-use Rattle.model.specs.Vocabulary.Table.{Table, Rows, rowAt, classRow}
+use Rattle.model.specs.Vocabulary.Table.{Table, Rows, rowAt, classRow, classesIn}
 use Rattle.model.proofs.Chains.{fromClasses, model-chain}
 use Rattle.model.proofs.CountsOfNew.{counts-fit, counts-differ, verdict-refusal}
 use Rattle.model.proofs.Cutting.{line-none}
@@ -105,9 +105,9 @@ end-model r at (l ∷ ls) n e = go (sound l) refl
 
 -- a table that tells all classes of a model belongs to its text, with its shapes, and tells what each class is to be given
 module _ (s : Text) (t : Table) (x : List ℕ) (n : ℕ) (most : n ≤ allLines) (m : Model) (told : Rows (ClassTold t n (LineTold s (length m) t x)) 0 m) where
-  all-belongs : Belongs s t m
+  all-belongs : classesIn t ≡ length m → Belongs s t m
   unfolding Belongs LineTold
-  all-belongs = classes-so t n allLines _ _ most (λ lim i c h. h .0) m told
+  all-belongs e = (e, classes-so t n allLines _ _ most (λ lim i c h. h .0) m told)
 
   all-shaped : length x ≡ allLines → Shaped t x m
   unfolding Shaped LineTold
@@ -118,9 +118,9 @@ module _ (s : Text) (t : Table) (x : List ℕ) (n : ℕ) (most : n ≤ allLines)
   all-given = rows-keep _ (λ k (c : Class). rowAt t (classRow k) .1 ≡ c .given) 0 m (λ k c _ _ h. h .1) told
 
   -- what `read` says of a text whose classes are all read
-  pub told-end : (so : SoFar) (at : ℕ) (ls : List Line) (v : Verdict) → judged s ≡ endJudged (after (m, so) at ls) → v ≡ verdictOf (endJudged (after (m, so) at ls)) → length x ≡ allLines
+  pub told-end : (so : SoFar) (at : ℕ) (ls : List Line) (v : Verdict) → judged s ≡ endJudged (after (m, so) at ls) → v ≡ verdictOf (endJudged (after (m, so) at ls)) → classesIn t ≡ length m → length x ≡ allLines
       → (v ≡ judge s) × ((n : Model) → judged s ≡ model n → Belongs s t n × Shaped t x n)
-  told-end so at ls v e f l = (
+  told-end so at ls v e f b l = (
     f ∙ sym (judge-verdict s ∙ ap verdictOf e),
-    λ n g. subst (λ k. Belongs s t k × Shaped t x k) (end-model (m, so) at ls n (sym e ∙ g)) (all-belongs, all-shaped l),
+    λ n g. subst (λ k. Belongs s t k × Shaped t x k) (end-model (m, so) at ls n (sym e ∙ g)) (all-belongs b, all-shaped l),
   )

@@ -2,6 +2,7 @@
 use crate::At;
 use crate::LineFound;
 use crate::Read;
+use crate::Row;
 use crate::Verdict;
 use crate::bounds;
 use crate::classes;
@@ -80,7 +81,10 @@ pub fn read(text: &[u8], table: &mut [u32], shapes: &mut [u8]) -> Verdict
         Read::Failed(verdict) => verdict,
         Read::Got(count, at) => match classes::all_classes(text, table, shapes, at, count) {
             Read::Failed(verdict) => verdict,
-            Read::Got(total, at) => ended(text, table, at, count, total),
+            Read::Got(total, at) => {
+                table::put(table, table::MODEL, Row(count, 0, 0, 0));
+                ended(text, table, at, count, total)
+            }
         },
     }
 }

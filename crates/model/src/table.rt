@@ -7,7 +7,7 @@ ghost use lib.ListN.{length};
 ghost use Rattle.model.specs.Vocabulary.Table as Table;
 
 // How many numbers the rows have together.
-pub const SIZE: usize = 2624;
+pub const SIZE: usize = 2628;
 
 // How many code lines there may be, each with a shape.
 pub const LINES: usize = 512;
@@ -19,6 +19,9 @@ const METHODS: usize = bounds::MOST_METHODS as usize;
 
 pub const FIRST_CODE: usize = FIRST_METHOD + METHODS * FIRST_METHOD;
 
+// The last row, which is the model's own.
+pub const MODEL: usize = FIRST_CODE + LINES;
+
 // The four numbers of a row.
 pub fn row(table: &[u32], r: usize) -> Row
     requires { ⌜ length (now table) ≡ Table.tableSize ⌝ }
@@ -27,6 +30,15 @@ pub fn row(table: &[u32], r: usize) -> Row
 {
     let at = r * 4;
     Row(table[at], table[at + 1], table[at + 2], table[at + 3])
+}
+
+// How many classes the model has.
+pub fn classes(table: &[u32]) -> u32
+    requires { ⌜ length (now table) ≡ Table.tableSize ⌝ }
+    ensures { λ r. ⌜ r ≡ Table.classesIn (now (table .entry)) ⌝ }
+{
+    let own = row(table, MODEL);
+    own.0
 }
 
 // Four numbers in the place of a row's.

@@ -14,7 +14,7 @@ use Rattle.code.specs.Statements.{Code}
 use Rattle.model.specs.declared.Row.{Row}
 use Rattle.model.specs.Bounds.{allLines, mostMethods}
 use Rattle.model.specs.Model.{Method, Class, Model}
-use Rattle.model.specs.Vocabulary.Table.{Table, rowAt, classRow, methodRow, codeRow, Rows}
+use Rattle.model.specs.Vocabulary.Table.{Table, rowAt, classRow, methodRow, codeRow, classesIn, Rows}
 
 -- the bytes of a code value, by its row: the place where it begins in the text, and its length
 unfoldable pub valueIn : Text → Row → Text
@@ -44,9 +44,9 @@ module _ (t : Table) (filled : ℕ) (Told : Limits → ℕ → Code → Type 0) 
       (r .0 ≡ c .attrs) × (r .1 ≡ c .given) × (r .2 ≡ c .run) × (r .3 ≡ length (c .methods)) × (length (c .methods) ≤ mostMethods)
       × Rows (MethodTold (c .attrs) k) 0 (c .methods)
 
--- a table belongs to a text that gives a model: it tells each of its classes
+-- a table belongs to a text that gives a model: it tells how many classes there are, and each of them
 unfoldable pub Belongs : Text → Table → Model → Type 0
-Belongs s t m = Rows (ClassTold t allLines (CodeTold s (length m) t)) 0 m
+Belongs s t m = (classesIn t ≡ length m) × Rows (ClassTold t allLines (CodeTold s (length m) t)) 0 m
 
 -- the shape of a code line, by its number
 unfoldable pub ShapeTold : List ℕ → Limits → ℕ → Code → Type 0

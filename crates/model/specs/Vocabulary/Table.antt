@@ -24,12 +24,16 @@ methodRow k j = 16 + 8 * k + j
 abbrev pub codeRow : ℕ → ℕ
 codeRow i = 144 + i
 
+-- the last row is the model's own: how many classes it has
+abbrev pub modelRow : ℕ
+modelRow = 656
+
 abbrev pub rows : ℕ
-rows = 656
+rows = 657
 
 -- the numbers of all rows
 abbrev pub tableSize : ℕ
-tableSize = 2624
+tableSize = 2628
 
 -- a table and the shapes of the code lines, each as long as it is to be
 abbrev pub Sized : Table → List ℕ → Type 0
@@ -38,6 +42,10 @@ Sized t x = (length t ≡ tableSize) × (length x ≡ allLines)
 -- the four numbers of a row; a number that is not there reads as 0
 unfoldable pub rowAt : Table → ℕ → Row
 rowAt t r = record { 0 = getD t (r * width) 0; 1 = getD t (r * width + 1) 0; 2 = getD t (r * width + 2) 0; 3 = getD t (r * width + 3) 0 }
+
+-- how many classes a table tells
+unfoldable pub classesIn : Table → ℕ
+classesIn t = rowAt t modelRow .0
 
 unfoldable pub put : Table → ℕ → Row → Table
 put t r x =

@@ -3,16 +3,17 @@ use Prim.Native.Nat.{_≤_}
 use mathlib.Core.Path.{_≡_, refl, sym, ap, subst, _∙_}
 use borrow.Author.Needs.{needs}
 use denote.Ref.{now}
-use lib.ListN.{drop}
+use lib.ListN.{length, drop}
 use Rattle.model.specs.InOrder.{_>>=_, after}
 use Rattle.model.specs.Judge.{judged, endJudged}
 use Rattle.model.specs.Lines.{lines}
 use Rattle.model.specs.Vocabulary.Belonging.{LineTold, ClassTold}
 use Rattle.model.specs.Vocabulary.Creations.{creationsFrom}
 use Rattle.model.specs.Vocabulary.Readings.{Placed, readAt, begin, readHead}
-use Rattle.model.specs.Vocabulary.Table.{Rows}
+use Rattle.model.specs.Vocabulary.Table.{Rows, tableSize}
 use Rattle.model.proofs.Chains.{fromClasses}
 use Rattle.model.proofs.Onward.{then-failed, told-failed, told-got, number-passed}
+use Rattle.model.proofs.Puts.{classes-put, model-put}
 use Rattle.model.proofs.Verdicts.{judged-long, judged-short, end-failed, told-refusal, all-given, told-end}
 use Rattle.model.proofs.judging.read.Statement.{statement}
 use Rattle.model.proofs.judging.read.Tie as tie
@@ -48,10 +49,13 @@ enum-known-verdict-2 c = search needs
 enum-known-total : tie.Need-enum-known-total
 enum-known-total c = search needs
 
+put-requires : tie.Need-put-requires
+put-requires c κs = search needs
+
 ended-requires : tie.Need-ended-requires
 ended-requires c κs =
-    let l = classes-decide (c .before .before .before .before .before .before .before .before .before .before .before .before) in
-    let g = told-got _ _ _ _ (c .before .before .before .before .before .before .before .before .all-classes .ensures) _ _ (c .before .before .total .given .1) in
+    let l = classes-decide (c .before .before .before .before .before .before .before .before .before .before .before .before .before .before .before .before) in
+    let g = told-got _ _ _ _ (c .before .before .before .before .before .before .before .before .before .before .before .before .all-classes .ensures) _ _ (c .before .before .before .before .before .before .total .given .1) in
     (search needs, (g .2, (l .2, g .3 .most)))
 
 returns-2 : tie.Need-returns-2
@@ -80,22 +84,28 @@ same-length-4 c = search needs
 returns-4 : tie.Need-returns-4
 unfolding creationsFrom
 returns-4 c =
-    let l = classes-decide (c .before .before .before .before .before .before .before .before .before .before .before .before .before) in
-    let s = now (c .before .before .before .before .before .before .before .before .before .before .before .before .before .before .before .before .before .before .before .before .args .text) in
-    let all = c .before .before .before .before .before .before .before .before .before .all-classes in
-    let t = all .last .1 .0 in
+    let l = classes-decide (c .before .before .before .before .before .before .before .before .before .before .before .before .before .before .before .before .before) in
+    let start = c .before .before .before .before .before .before .before .before .before .before .before .before .before .before .before .before .before .before .before .before .before .before .before .before in
+    let s = now (start .args .text) in
+    let all = c .before .before .before .before .before .before .before .before .before .before .before .before .before .all-classes in
+    let u = all .last .1 .0 in
     let x = all .last .1 .1 .0 in
-    let end = c .before .before .before .total .given in
+    let own = c .before .before .before .before .put in
+    let t = own .last .0 in
+    let end = c .before .before .before .before .before .before .before .total .given in
     let n = end .0 .0 in
     let q = end .0 .1 .0 in
     let g = told-got _ _ _ _ (all .ensures) n q (end .1) in
     let m = g .0 .0 in
-    let left = g .3 in
+    let count = c .before .before .before .before .before .before .before .before .before .before .before .before .before .before .before .before .before .count .given .0 .0 in
+    let sized : length u ≡ tableSize = (let h = start .pre in let e = c .before .before .before .before .before .before .before .before .before .before .before .before .table .given in search needs) in
+    let left = model-put s (now (start .args .table)) (now (start .args .shapes)) u x count n (g .0) (l .2) t (own .ensures) (g .3) in
     let told = subst (λ k. Rows (ClassTold t n (LineTold s k t x)) 0 m) (sym (left .told .0)) (left .told .1) in
     told-end s t x n (left .most) m told _ _ _ _
     (l .0 ∙ ap endJudged (g .1) ∙ ap (λ so. endJudged (after (m, so) (q .line) (lines (drop (q .place) s)))) (left .so))
     (c .ended .ensures m (all-given s t x n (left .most) m told) (left .told .0))
-    (let h = c .before .before .before .before .before .before .before .before .before .before .before .before .before .before .before .before .before .before .before .before .pre in let e = c .before .before .before .before .before .before .shapes .given in search needs)
+    (classes-put u sized count t (own .ensures) ∙ sym (left .told .0))
+    (let h = start .pre in let e = c .before .before .before .before .before .before .before .before .before .before .shapes .given in search needs)
 
 pub read-spec : {M : Type 1} → statement M
 read-spec =
@@ -108,6 +118,7 @@ read-spec =
     all-classes-requires
     enum-known-verdict-2
     enum-known-total
+    put-requires
     ended-requires
     returns-2
     same-length
