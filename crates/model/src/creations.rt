@@ -47,7 +47,7 @@ pub fn counts_judged(table: &[u32], classes: u32, total: u32) -> Verdict
 {
     let mut i = 0;
     while i < total {
-        let line = table::row(table, table::FIRST_CODE + i as usize);
+        let line = table::code_row(table, i);
         if !fits(table, classes, line.3) {
             return Verdict {
                 number: refusals::WRONG_CODE,

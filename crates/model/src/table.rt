@@ -54,16 +54,40 @@ pub fn put(table: &mut [u32], r: usize, row: Row)
     table[at + 3] = row.3;
 }
 
-// The same in the place of a method's row.
+// The number of a method's row.
+fn method_place(class: u32, method: u32) -> usize
+    requires { ⌜ class < 16 ⌝ }
+    requires { ⌜ method < 8 ⌝ }
+    ensures { λ r. ⌜ r ≡ Table.methodRow class method ⌝ }
+{
+    FIRST_METHOD + METHODS * class as usize + method as usize
+}
+
+// A method's row.
+pub fn method_row(table: &[u32], class: u32, method: u32) -> Row
+    requires { ⌜ length (now table) ≡ Table.tableSize ⌝ }
+    requires { ⌜ class < 16 ⌝ }
+    requires { ⌜ method < 8 ⌝ }
+    ensures { λ r. ⌜ r ≡ Table.rowAt (now (table .entry)) (Table.methodRow class method) ⌝ }
+{
+    row(table, method_place(class, method))
+}
+
+// Four numbers in the place of a method's.
 pub fn put_method(table: &mut [u32], class: u32, method: u32, row: Row)
     requires { ⌜ length (now table) ≡ Table.tableSize ⌝ }
     requires { ⌜ class < 16 ⌝ }
     requires { ⌜ method < 8 ⌝ }
     ensures { λ _. ⌜ now (table .exit) ≡ Table.put (now (table .entry)) (Table.methodRow class method) row ⌝ }
 {
-    put(
-        table,
-        FIRST_METHOD + METHODS * class as usize + method as usize,
-        row,
-    );
+    put(table, method_place(class, method), row);
+}
+
+// A code line's row, by the number of the line among all code lines.
+pub fn code_row(table: &[u32], line: u32) -> Row
+    requires { ⌜ length (now table) ≡ Table.tableSize ⌝ }
+    requires { ⌜ line < 512 ⌝ }
+    ensures { λ r. ⌜ r ≡ Table.rowAt (now (table .entry)) (Table.codeRow line) ⌝ }
+{
+    row(table, FIRST_CODE + line as usize)
 }

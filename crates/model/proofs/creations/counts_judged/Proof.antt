@@ -24,14 +24,8 @@ abbrev μ-loop : tie.MeasureT-loop
 loop-holds : tie.Need-loop-holds Inv-loop μ-loop
 loop-holds c m told l = rw sub-zero refl
 
-cast-row : tie.Need-cast-row Inv-loop μ-loop
-cast-row c = omega arith
-
-add-row : tie.Need-add-row Inv-loop μ-loop
-add-row c = omega arith
-
-row-requires : tie.Need-row-requires Inv-loop μ-loop
-row-requires c κs = search needs
+code-row-requires : tie.Need-code-row-requires Inv-loop μ-loop
+code-row-requires c κs = search needs
 
 fits-requires : tie.Need-fits-requires Inv-loop μ-loop
 fits-requires c κs = search needs
@@ -41,7 +35,7 @@ returns c m told l =
     let r = c .before .before in
     let o = r .before .before .loop in
     let e = sym (c .before .fits2 .ensures m told l) ∙ not-true _ (c .if1 .taken) in
-    sym (ap verdictOf (o .inv m told l ∙ counts-here _ m _ _ (omega arith) _ (r .row .ensures) e) ∙ verdict-refusal _)
+    sym (ap verdictOf (o .inv m told l ∙ counts-here _ m _ _ (omega arith) _ (r .code-row .ensures) e) ∙ verdict-refusal _)
 
 add-i : tie.Need-add-i Inv-loop μ-loop
 add-i c = omega arith
@@ -54,7 +48,7 @@ loop-again c m told l =
     let r = c .before .before in
     let o = r .before .before .loop in
     let e = sym (c .before .fits2 .ensures m told l) ∙ not-false _ (c .if1 .left) in
-    o .inv m told l ∙ counts-onward _ m _ _ (omega arith) _ (r .row .ensures) e
+    o .inv m told l ∙ counts-onward _ m _ _ (omega arith) _ (r .code-row .ensures) e
 
 returns-2 : tie.Need-returns-2 Inv-loop μ-loop
 returns-2 c m told l =
@@ -67,9 +61,7 @@ counts-judged-spec =
     Inv-loop
     μ-loop
     loop-holds
-    cast-row
-    add-row
-    row-requires
+    code-row-requires
     fits-requires
     returns
     add-i
