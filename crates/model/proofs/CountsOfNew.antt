@@ -17,14 +17,9 @@ use Rattle.model.specs.ModelText.{Creation}
 use Rattle.model.specs.Vocabulary.Table.{Table, rowAt, classRow, codeRow}
 use Rattle.model.specs.declared.Row.{Row}
 use Rattle.model.specs.declared.Verdict.{Verdict}
-use Rattle.model.proofs.TableRows.{rows-at}
+use Rattle.model.proofs.TableRows.{item-at, rows-at}
 
--- within a list there is an item
-item-at : {A : Type 0} (xs : List A) (i : ℕ) → i < length xs → (x : A) × (getElem? xs i ≡ some x)
-item-at [] i h = absurd (omega arith)
-item-at (x ∷ xs) zero h = (x, refl)
-item-at (x ∷ xs) (suc i) h = item-at xs i (omega arith)
-
+-- past a list there is no item
 item-past : {A : Type 0} (xs : List A) (i : ℕ) → length xs ≤ i → getElem? xs i ≡ none
 item-past [] i h = refl
 item-past (x ∷ xs) zero h = absurd (omega arith)

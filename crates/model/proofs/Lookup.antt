@@ -1,6 +1,6 @@
--- What parts above look up in the table of a text, without opening it: the number of classes, the counts of a class and of a method, and the bytes of a code line.
--- Assumes nothing.
-use Prim.Native.Nat.{ℕ, _+_, _≤_}
+-- What parts above look up in the table of a text, without opening it: the number of classes, the counts of a class and of a method, and the
+-- bytes of a code line. Assumes nothing.
+use Prim.Native.Nat.{ℕ, _+_, _≤_, _<_}
 use mathlib.Core.Option.{some}
 use mathlib.Core.Path.{_≡_, subst}
 use native.Mathlib.Nat.{zero-add}
@@ -14,12 +14,16 @@ use Rattle.model.specs.Vocabulary.Belonging.{valueIn, CodeTold, MethodTo
 use Rattle.model.specs.Bounds.{allLines, mostMethods}
 use Rattle.model.specs.Model.{Method, Class, Model}
 use Rattle.model.specs.Vocabulary.Table.{Table, rowAt, classRow, methodRow, codeRow, classesIn}
-use Rattle.model.proofs.TableRows.{rows-at}
+use Rattle.model.proofs.TableRows.{item-at, rows-at}
 
 -- a text, the table that belongs to it, and the model that it gives: how many classes it has
 pub classes-at : (s : Text) (t : Table) (m : Model) → Belongs s t m → classesIn t ≡ length m
 unfolding Belongs
 classes-at s t m b = b .0
+
+-- a class below that number is there
+pub class-below : (m : Model) (k : ℕ) → k < length m → (c : Class) × (getElem? m k ≡ some c)
+class-below m k h = item-at m k h
 
 -- and a class of it
 module _ (s : Text) (t : Table) (m : Model) (b : Belongs s t m) (k : ℕ) (c : Class) (e : getElem? m k ≡ some c) where

@@ -2,7 +2,7 @@
 use Prim.Native.Nat.{ℕ, zero, suc, _+_, _*_, _≤_, _<_}
 use mathlib.Core.List.{List, [], _∷_, _++_}
 use mathlib.Core.Option.{some}
-use mathlib.Core.Path.{_≡_, subst, _∙_}
+use mathlib.Core.Path.{_≡_, refl, subst, _∙_}
 use native.Mathlib.Nat.{add-zero}
 use native.Mathlib.Omega.{arith}
 use lib.ListN.{length, getD, set, getElem?, length-set, length-append}
@@ -79,7 +79,13 @@ rows-keep P Q n (x ∷ xs) k h = (
   rows-keep P Q (suc n) xs (λ i y l m. k i y (omega arith) (omega arith)) (h .1),
 )
 
--- an item by its place
+-- within a list there is an item
+pub item-at : {A : Type 0} (xs : List A) (i : ℕ) → i < length xs → (x : A) × (getElem? xs i ≡ some x)
+item-at [] i h = absurd (omega arith)
+item-at (x ∷ xs) zero h = (x, refl)
+item-at (x ∷ xs) (suc i) h = item-at xs i (omega arith)
+
+-- what holds of an item, by its place
 pub rows-at : {A : Type 0} (P : ℕ → A → Type 0) (n : ℕ) (xs : List A) (i : ℕ) (x : A) → Rows P n xs → getElem? xs i ≡ some x → P (n + i) x
 unfolding Rows
 rows-at P n [] i x h e = absurd (let z : _≡_ {A = ℕ} 0 1 = cc in omega arith)
