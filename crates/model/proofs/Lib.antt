@@ -14,6 +14,7 @@ pub mod CreationRows
 pub mod Cutting
 pub mod Framing
 pub mod KeyLines
+pub mod Knowing
 pub mod Lookup
 pub mod LookupShapes
 pub mod Loops

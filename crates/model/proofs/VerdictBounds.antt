@@ -1,9 +1,10 @@
--- A verdict is small, whatever the text: its number is at most 6, and its line at most 32,769. Assumes nothing.
+-- A verdict is small, whatever the text: its number is at most 6, and from 1 on where the text is refused; its line is at most 32,769.
+-- Assumes nothing.
 use Prim.Native.Nat.{ℕ, zero, suc, _+_, _≤_}
 use mathlib.Core.Bool.{Bool, true, false}
 use mathlib.Core.List.{List, [], _∷_, _++_}
 use mathlib.Core.Option.{Option, none, some}
-use mathlib.Core.Path.{_≡_, refl}
+use mathlib.Core.Path.{_≡_, refl, subst}
 use native.Mathlib.Omega.{arith}
 use borrow.Author.Tests.{ltb-false}
 use lib.Dec.{ltb, eqb}
@@ -17,6 +18,7 @@ use Rattle.terms.specs.Trees.{trees, guardTrees}
 use Rattle.code.specs.Blocks.{Block, shapeOf, through}
 use Rattle.code.specs.Statements.{Code, newOf}
 use Rattle.code.specs.Reader.{statement}
+use Rattle.model.specs.declared.Verdict.{Verdict}
 use Rattle.model.specs.InOrder.{LinesRead, failed, after, Reader, done, _>>=_, Taken, wrong, right, passed, keyLine, numberLine, each}
 use Rattle.model.specs.Judge.{Judged, refusal, model, givenTo, countsJudged, endJudged, judged, verdictOf, judge}
 use Rattle.model.specs.Lines.{Line, terminated, unterminated, grown, lines, lineFeed, sound, content, longestText}
@@ -24,15 +26,19 @@ use Rattle.model.specs.Model.{Model}
 use Rattle.model.specs.ModelText.{Creation, SoFar, creationsOf, mayStand, standing, codeLine, linesBegun, readMethod, readClass, readModel}
 use Rattle.model.specs.Numbers.{numberIn}
 
+-- the number of a refusal
+abbrev Refusing : ℕ → Type 0
+Refusing n = (1 ≤ n) × (n ≤ 6)
+
 -- a text of so many lines, less one
 module _ (last : ℕ) where
   -- creations that stand at or before its last line
   abbrev Before : List Creation → Type 0
   Before cs = Every (λ c. c .at ≤ last) cs
 
-  -- what reading gives is small: the number up to 6 and the line of a refusal, or the place reached, and what was read
+  -- what reading gives is small: the number and the line of a refusal, or the place reached, and what was read
   Small : {A : Type 0} → (A → Type 0) → LinesRead A → Type 0
-  Small P (failed v) = (v .number ≤ 6) × (v .line ≤ last)
+  Small P (failed v) = Refusing (v .number) × (v .line ≤ last)
   Small P (after a at ls) = (at + length ls ≤ last) × P a
 
   abbrev Reads : {A : Type 0} → (A → Type 0) → Reader A → Type 0
@@ -56,7 +62,7 @@ module _ (last : ℕ) where
 
   -- what a line is taken for
   Takes : {A : Type 0} → (A → Type 0) → Taken A → Type 0
-  Takes P (wrong n) = n ≤ 6
+  Takes P (wrong n) = Refusing n
   Takes P (right a) = P a
 
   small-passed : {A : Type 0} (P : A → Type 0) (t : Taken A) (at : ℕ) (l : Line) (ls : List Line) → at + length (l ∷ ls) ≤ last → Takes P t → Small P (passed t at ls)
@@ -66,15 +72,15 @@ module _ (last : ℕ) where
 
   reads-key : {A : Type 0} (P : A → Type 0) (key : Text) (value : ℕ → Text → Taken A) → ((at : ℕ) (v : Text) → at ≤ last → Takes P (value at v)) → Reads P (keyLine key value)
   unfolding keyLine Small Takes
-  reads-key P key value f at [] h = (omega arith, omega arith)
+  reads-key P key value f at [] h = ((omega arith, omega arith), omega arith)
   reads-key {A} P key value f at (l ∷ ls) h = go (sound l) (word key (content l) 0)
     where
       go : (b : Bool) (w : Parsed (Unit {0})) → Small {A = A} P (elim b [
         | false ↦ passed (wrong brokenLine) at ls
         | true ↦ elim w [ bad p ↦ passed (wrong wrongKey) at ls | got p u ↦ passed (value at (drop p (content l))) at ls ]
       ])
-      go false w = small-passed P (wrong brokenLine) at l ls h (omega arith)
-      go true (bad p) = small-passed P (wrong wrongKey) at l ls h (omega arith)
+      go false w = small-passed P (wrong brokenLine) at l ls h (omega arith, omega arith)
+      go true (bad p) = small-passed P (wrong wrongKey) at l ls h (omega arith, omega arith)
       go true (got p u) = small-passed P _ at l ls h (f at (drop p (content l)) (omega arith))
 
   reads-number : (key : Text) (low high : ℕ) → Reads (λ _. Unit {0}) (numberLine key low high)
@@ -82,7 +88,7 @@ module _ (last : ℕ) where
   reads-number key low high = reads-key _ key _ (λ at v _. go (numberIn low high v))
     where
       go : (o : Option ℕ) → Takes {A = ℕ} (λ _. Unit {0}) (elim o [ none ↦ wrong wrongNumber | some n ↦ right n ])
-      go none = omega arith
+      go none = (omega arith, omega arith)
       go (some n) = tt
 
   reads-each : {A : Type 0} (one : ℕ → SoFar → Reader (A × SoFar)) → ((i : ℕ) (so : SoFar) → Before (so .creations) → Reads Carried (one i so))
@@ -109,14 +115,14 @@ module _ (last : ℕ) where
   -- a code line, a method, a class, the whole
   takes-standing : (at : ℕ) (b : Bool) (so : SoFar) (c : Code) → at ≤ last → Before (so .creations) → (o : Option (List Block)) → Takes (Carried {A = Code}) (standing at b so c o)
   unfolding standing Takes
-  takes-standing at b so c h k none = omega arith
+  takes-standing at b so c h k none = (omega arith, omega arith)
   takes-standing at b so c h k (some bs) = go (mayStand b c bs)
     where
       go : (t : Bool) → Takes (Carried {A = Code}) (elim t [
         | false ↦ wrong wrongBlocks
         | true ↦ right (c, record { total = so .total; creations = so .creations ++ creationsOf at c; blocks = bs })
       ])
-      go false = omega arith
+      go false = (omega arith, omega arith)
       go true = before-more (so .creations) _ k (before-line at c h)
 
   reads-code : (lim : Limits) (classes count i : ℕ) (so : SoFar) → Before (so .creations) → Reads Carried (codeLine lim classes count i so)
@@ -127,7 +133,7 @@ module _ (last : ℕ) where
         | bad p ↦ wrong wrongCode
         | got p c ↦ standing at (eqb (i + 1) count) so c (through (shapeOf c) (so .blocks))
       ])
-      go at k (bad p) = omega arith
+      go at k (bad p) = (omega arith, omega arith)
       go at k (got p c) = takes-standing at _ so c k h _
 
   reads-method : (classes attrs run j : ℕ) (so : SoFar) → Before (so .creations) → Reads Carried (readMethod classes attrs run j so)
@@ -149,9 +155,9 @@ module _ (last : ℕ) where
   reads-model =
       reads-then _ _ _ _ (reads-number _ _ _) (λ _ _. reads-then _ _ _ _ (reads-number _ _ _) (λ count _. reads-each _ (reads-class count) count 0 _ tt))
 
-  -- a refusal with a number up to 6, at a line up to the last
+  -- a refusal with a number of one, at a line up to the last
   Within : Judged → Type 0
-  Within (refusal v) = (v .number ≤ 6) × (v .line ≤ last)
+  Within (refusal v) = Refusing (v .number) × (v .line ≤ last)
   Within (model m) = Unit {0}
 
   within-counts : (m : Model) (cs : List Creation) → Before cs → Within (countsJudged m cs)
@@ -161,7 +167,7 @@ module _ (last : ℕ) where
     where
       go : (b : Bool) → Within (countsJudged m cs) → Within (elim b [ true ↦ countsJudged m cs | false ↦ refusal (record { number = wrongCode; line = c .at }) ])
       go true w = w
-      go false w = (omega arith, h .0)
+      go false w = ((omega arith, omega arith), h .0)
 
   within-end : (x : LinesRead (Model × SoFar)) → Small Carried x → Within (endJudged x)
   unfolding endJudged Within Small
@@ -170,8 +176,8 @@ module _ (last : ℕ) where
   within-end (after r at (l ∷ ls)) w = go (sound l)
     where
       go : (b : Bool) → Within (elim b [ false ↦ refusal (record { number = brokenLine; line = at }) | true ↦ refusal (record { number = wrongKey; line = at }) ])
-      go false = (omega arith, omega arith)
-      go true = (omega arith, omega arith)
+      go false = ((omega arith, omega arith), omega arith)
+      go true = ((omega arith, omega arith), omega arith)
 
 -- a text has no more lines than bytes
 grown-length : (b : ℕ) (ls : List Line) → length (grown b ls) ≤ suc (length ls)
@@ -195,8 +201,13 @@ unfolding judged Within
 within-judged s = go (ltb longestText (length s)) refl
   where
     go : (b : Bool) → ltb longestText (length s) ≡ b → Within 32769 (elim b [ true ↦ refusal (record { number = textTooLong; line = 0 }) | false ↦ endJudged (readModel 1 (lines s)) ])
-    go true e = (omega arith, omega arith)
+    go true e = ((omega arith, omega arith), omega arith)
     go false e = within-end 32769 _ (reads-model 32769 1 (lines s) (omega (arith, lines-length s, ltb-false longestText (length s) e)))
+
+-- a text that is refused
+pub refusal-number : (s : Text) (v : Verdict) → judged s ≡ refusal v → (1 ≤ v .number) × (v .number ≤ 6)
+unfolding Within
+refusal-number s v e = subst (Within 32769) e (within-judged s) .0
 
 -- the verdict on any text
 pub judge-small : (s : Text) → (judge s .number ≤ 6) × (judge s .line ≤ 32769)
@@ -204,5 +215,5 @@ unfolding judge
 judge-small s = go (judged s) (within-judged s)
   where
     go : (j : Judged) → Within 32769 j → (verdictOf j .number ≤ 6) × (verdictOf j .line ≤ 32769)
-    go (refusal v) w = unfold verdictOf Within in w
+    go (refusal v) w = unfold verdictOf Within in (w .0 .1, w .1)
     go (model m) w = unfold verdictOf in (omega arith, omega arith)
