@@ -49,13 +49,13 @@ const CALLS: usize = 1;
 
 const FIRST_OBJECT: usize = 2;
 
-const OBJECT_ROWS: u32 = 32;
+pub const OBJECT_ROWS: u32 = 32;
 
 const OBJECT_CELLS: u16 = 10;
 
 const FIRST_CALL: usize = 322;
 
-const CALL_ROWS: u32 = 128;
+pub const CALL_ROWS: u32 = 128;
 
 const CALL_CELLS: u16 = 16;
 
@@ -155,6 +155,19 @@ pub fn of_call(cells: &[i32], l: Label, field: u16) -> i32
     ensures { λ r. ⌜ r ≡ Layout.ofCall (now (cells .entry)) (l .0) field ⌝ }
 {
     cell(cells, call_cell(cells, l, field))
+}
+
+// "Cell 0: objects; cell 1: calls issued."
+pub fn objects(cells: &[i32]) -> i32
+    ensures { λ r. ⌜ r ≡ Layout.read (now (cells .entry)) Layout.objects ⌝ }
+{
+    cell(cells, CellFound::At(OBJECTS))
+}
+
+pub fn calls(cells: &[i32]) -> i32
+    ensures { λ r. ⌜ r ≡ Layout.read (now (cells .entry)) Layout.calls ⌝ }
+{
+    cell(cells, CellFound::At(CALLS))
 }
 
 // The count in a cell.

@@ -1,0 +1,17 @@
+-- `layout::calls` meets its contract. Assumes nothing.
+use borrow.Author.Needs.{needs}
+use Rattle.layout.specs.Layout.{read, stands, cellOf}
+use Rattle.layout.specs.Vocabulary.Found.{heldAt}
+use Rattle.whole.proofs.Ranges.{handed}
+use Rattle.layout.proofs.calls.Statement.{statement}
+use Rattle.layout.proofs.calls.Tie as tie
+
+cell-requires : tie.Need-cell-requires
+cell-requires c κs = search needs
+
+returns : tie.Need-returns
+unfolding read stands cellOf heldAt
+returns c = handed _ _ (c .cell .ok) (c .cell .ensures)
+
+pub calls-spec : {M : Type 1} → statement M
+calls-spec = tie.close (tie.spec cell-requires returns)
