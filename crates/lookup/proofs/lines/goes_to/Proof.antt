@@ -1,0 +1,114 @@
+-- `lookup::lines::goes_to` meets its contract. Assumes nothing.
+use Prim.Native.Nat.{ℕ, _+_, _-_, _≤_, _<_}
+use mathlib.Core.List.{List, []}
+use mathlib.Core.Option.{some}
+use mathlib.Core.Path.{_≡_, refl, ap, _∙_}
+use native.Mathlib.Omega.{arith}
+use denote.Ref.{now}
+use lib.ListN.{length, getD, take, drop, length-take, length-drop}
+use Rattle.code.specs.declared.Shape.{Shape}
+use Rattle.code.specs.declared.Shape.the-variants as Shape
+use Rattle.code.specs.Blocks.{untilElse, untilFi, untilOd, opening, closing, throughAll}
+use Rattle.code.specs.Partners.{goesFrom, goesTo}
+use Rattle.code.specs.Vocabulary.Shapes.{shapesIn}
+use Rattle.code.proofs.Jumps.{partner-ahead, partner-behind}
+use Rattle.code.proofs.Shapes.{shapes-length}
+use Rattle.lookup.specs.declared.Body.{Body}
+use Rattle.lookup.specs.declared.Standing.{Standing}
+use Rattle.lookup.specs.Vocabulary.Found.{shapesAt, Lined}
+use borrow.Author.Needs.{needs}
+use Rattle.lookup.proofs.lines.goes_to.Statement.{statement}
+use Rattle.lookup.proofs.lines.goes_to.Tie as tie
+
+-- what a line goes to is a line, or the place after the last
+goes-most : (ls : List Shape) → throughAll ls [] ≡ some [] → (i : ℕ) → i < length ls → goesTo ls i ≤ length ls
+unfolding goesTo goesFrom opening closing
+goes-most ls closes i inside = go (getD ls i Shape.Plain) refl
+  where
+    go : (l : Shape) → getD ls i Shape.Plain ≡ l → goesFrom l ls i ≤ length ls
+    go Shape.If e = omega (arith, partner-ahead ls closes i inside untilElse (ap opening e) .1)
+    go Shape.Else e = omega (arith, partner-ahead ls closes i inside untilFi (ap opening e) .1)
+    go Shape.While e = omega (arith, partner-ahead ls closes i inside untilOd (ap opening e) .1)
+    go Shape.Od e = omega (arith, partner-behind ls closes i inside untilOd (ap closing e))
+    go Shape.Fi e = omega arith
+    go Shape.Return e = omega arith
+    go Shape.Await e = omega arith
+    go Shape.Plain e = omega arith
+
+-- the part of the shapes that the code lends
+abbrev lent : List ℕ → Body → List ℕ
+lent x d = take (d .first + d .count - d .first) (drop (d .first) x)
+
+-- it holds the shapes of the body
+lent-shapes : (x : List ℕ) (d : Body) → shapesIn (lent x d) ≡ shapesAt x d
+unfolding shapesAt
+lent-shapes x d = let z : d .first + d .count - d .first ≡ d .count = omega arith in ap (λ n. shapesIn (take n (drop (d .first) x))) z
+
+module _ (x : List ℕ) (at : Standing) (h : Lined x at) where
+  -- the line is one of them
+  lent-line : at .line < length (lent x (at .body))
+  lent-line = let d = at .body in omega (arith, length-take (d .first + d .count - d .first) (drop (d .first) x), length-drop (d .first) x, h .line, h .inside)
+
+  -- and their blocks close
+  lent-close : throughAll (shapesIn (lent x (at .body))) [] ≡ some []
+  lent-close = ap (λ l. throughAll l []) (lent-shapes x (at .body)) ∙ h .close
+
+  -- so what it goes to is a small number
+  lent-small : goesTo (shapesIn (lent x (at .body))) (at .line) < 65536
+  lent-small =
+      let d = at .body in
+      let l = lent x d in
+      let n = shapes-length l in
+      omega (arith, goes-most (shapesIn l) lent-close (at .line) (omega (arith, lent-line)), length-take (d .first + d .count - d .first) (drop (d .first) x), h .few)
+
+cast-first : tie.Need-cast-first
+cast-first c = search needs
+
+cast-goes-to : tie.Need-cast-goes-to
+cast-goes-to c = search needs
+
+add-goes-to : tie.Need-add-goes-to
+add-goes-to c = search needs
+
+sub-goes-to : tie.Need-sub-goes-to
+sub-goes-to c = search needs
+
+part-goes-to-start : tie.Need-part-goes-to-start
+part-goes-to-start c = search needs
+
+part-goes-to-end : tie.Need-part-goes-to-end
+part-goes-to-end c = search needs
+
+cast-goes-to-2 : tie.Need-cast-goes-to-2
+cast-goes-to-2 c = search needs
+
+goes-to-requires : tie.Need-goes-to-requires
+goes-to-requires c κs =
+    let b = c .before .before .before .before .before .before in
+    (lent-line (now (b .args .shapes)) (b .args .at) (b .pre), lent-close (now (b .args .shapes)) (b .args .at) (b .pre))
+
+cast-result : tie.Need-cast-result
+cast-result c =
+    let b = c .before .before .before .before .before .before .before in
+    let h = lent-small (now (b .args .shapes)) (b .args .at) (b .pre) in
+    search needs
+
+returns : tie.Need-returns
+returns c =
+    let b = c .before .before .before .before .before .before .before in
+    c .goes-to .ensures ∙ ap (λ l. goesTo l (b .args .at .line)) (lent-shapes (now (b .args .shapes)) (b .args .at .body))
+
+pub goes-to-spec : {M : Type 1} → statement M
+goes-to-spec =
+    tie.close
+    (tie.spec
+    cast-first
+    cast-goes-to
+    add-goes-to
+    sub-goes-to
+    part-goes-to-start
+    part-goes-to-end
+    cast-goes-to-2
+    goes-to-requires
+    cast-result
+    returns)
