@@ -1,0 +1,66 @@
+-- `forms::returned` meets its contract. Assumes nothing.
+use borrow.Author.Needs.{needs}
+use denote.Ref.{now}
+use mathlib.Core.Path.{refl, ap, _∙_}
+use Rattle.layout.specs.Layout.{written, toCall, value}
+use Rattle.layout.specs.Stages.{staged}
+use Rattle.rules.specs.Exec as Exec
+use Rattle.whole.proofs.Ranges.{handed}
+use Rattle.forms.proofs.Written.{all-written, then, staged-then, worked-out, did-not-fit}
+use Rattle.forms.proofs.returned.Statement.{statement}
+use Rattle.forms.proofs.returned.Tie as tie
+
+enum-told : tie.Need-enum-told
+enum-told c = search needs
+
+enum-known-w : tie.Need-enum-known-w
+enum-known-w c = search needs
+
+stage-returned-requires : tie.Need-stage-returned-requires
+stage-returned-requires c κs = search needs
+
+to-call-requires : tie.Need-to-call-requires
+to-call-requires c κs = search needs
+
+to-stage-requires : tie.Need-to-stage-requires
+to-stage-requires c κs = search needs
+
+freed-requires : tie.Need-freed-requires
+freed-requires c κs = search needs
+
+returns : tie.Need-returns
+returns c m st = did-not-fit _ _ _ (c .enum-told .given .1)
+
+same-length : tie.Need-same-length
+same-length c = search needs
+
+returns-2 : tie.Need-returns-2
+unfolding Exec.returned Exec.freed
+returns-2 c m st =
+    let k = c .before .before .before .before .before .before .before .before .before .before .before in
+    let s = k .before .before .before in
+    let cells = now (s .args .cells) in
+    let l = s .args .here .label .0 in
+    let w = k .before .w .given in
+    let call = c .before .before .before .before .before .before .before .to-call in
+    let stage = c .before .before .before .before .to-stage in
+    worked-out _ _ _ _ (w .0 .0) _ (w .1)
+    (all-written _ _ _
+    (then _ _ _ _
+    (staged-then _ _ _ _ (call .ensures ∙ ap (λ z. written cells (toCall cells l value z)) (handed _ _ (k .known-told .given .0 .1) refl)) _ _
+    (stage .ensures ∙ ap (λ n. written (call .last .0) (staged (call .last .0) l n)) (c .before .before .before .before .before .before .before .before .before .stage-returned .ensures m st)))
+    _ (c .before .freed .ensures)))
+
+pub returned-spec : {M : Type 1} → statement M
+returned-spec =
+    tie.close
+    (tie.spec
+    enum-told
+    enum-known-w
+    stage-returned-requires
+    to-call-requires
+    to-stage-requires
+    freed-requires
+    returns
+    same-length
+    returns-2)

@@ -1,0 +1,28 @@
+-- `forms::suspended` meets its contract. Assumes nothing.
+use borrow.Author.Needs.{needs}
+use Rattle.rules.specs.Exec as Exec
+use Rattle.forms.proofs.Written.{all-written, then, call-then}
+use Rattle.forms.proofs.suspended.Statement.{statement}
+use Rattle.forms.proofs.suspended.Tie as tie
+
+to-stage-requires : tie.Need-to-stage-requires
+to-stage-requires c κs = search needs
+
+to-call-requires : tie.Need-to-call-requires
+to-call-requires c κs = search needs
+
+freed-requires : tie.Need-freed-requires
+freed-requires c κs = search needs
+
+same-length : tie.Need-same-length
+same-length c = search needs
+
+returns : tie.Need-returns
+unfolding Exec.suspended Exec.freed
+returns c m st =
+    all-written _ _ _
+    (then _ _ _ _ (call-then _ _ _ _ (c .before .before .before .before .before .before .before .to-stage .ensures) _ _ _ (c .before .before .before .before .to-call .ensures)) _ (c .before .freed .ensures))
+
+pub suspended-spec : {M : Type 1} → statement M
+suspended-spec =
+    tie.close (tie.spec to-stage-requires to-call-requires freed-requires same-length returns)

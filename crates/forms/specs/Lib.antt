@@ -1,0 +1,2 @@
+-- What the contracts of the forms in code say beside the definitions of `rules`.
+pub mod Vocabulary
