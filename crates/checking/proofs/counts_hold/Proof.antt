@@ -1,0 +1,55 @@
+-- `checking::counts_hold` meets its contract. Assumes nothing.
+use borrow.Author.Needs.{needs}
+use denote.Ref.{now}
+use lib.IntN.{pos}
+use mathlib.Core.Path.{_≡_, sym, ap, _∙_}
+use Rattle.whole.specs.Whole.{between}
+use Rattle.whole.proofs.Ranges.{handed}
+use Rattle.layout.specs.Layout.{read, objects, objectRows, callRows}
+use Rattle.checking.proofs.Tests.{stopped, passed}
+use Rattle.checking.proofs.counts_hold.Statement.{statement}
+use Rattle.checking.proofs.counts_hold.Tie as tie
+
+-- what was found of the objects
+objects-told : (c : tie.After-between) → c .between .result ≡ between (pos 1) (pos objectRows) (read (now (c .before .before .args .cells)) objects)
+objects-told c = c .between .ensures ∙ ap (between (pos 1) (pos objectRows)) (handed _ _ (c .before .objects .ok) (c .before .objects .ensures))
+
+cast-between : tie.Need-cast-between
+cast-between c = search needs
+
+objects-requires : tie.Need-objects-requires
+objects-requires c κs = search needs
+
+between-requires : tie.Need-between-requires
+between-requires c κs = search needs
+
+cast-between-2 : tie.Need-cast-between-2
+cast-between-2 c = search needs
+
+calls-requires : tie.Need-calls-requires
+calls-requires c κs = search needs
+
+between-requires-2 : tie.Need-between-requires-2
+between-requires-2 c κs = search needs
+
+returns : tie.Need-returns
+returns c =
+    let b = c .before .before .before in
+    passed _ _ (sym (objects-told b) ∙ c .before .before .if1 .taken)
+    (c .between2 .ensures ∙ ap (between (pos 1) (pos callRows)) (handed _ _ (c .before .calls .ok) (c .before .calls .ensures)))
+
+returns-2 : tie.Need-returns-2
+returns-2 c = stopped _ _ (sym (objects-told (c .before)) ∙ c .if1 .left)
+
+pub counts-hold-spec : {M : Type 1} → statement M
+counts-hold-spec =
+    tie.close
+    (tie.spec
+    cast-between
+    objects-requires
+    between-requires
+    cast-between-2
+    calls-requires
+    between-requires-2
+    returns
+    returns-2)

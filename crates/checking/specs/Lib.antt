@@ -1,0 +1,1 @@
+-- The test of a configuration in code has no vocabulary of its own: its contracts speak in the definitions of `cells`.
