@@ -1,0 +1,37 @@
+-- `transcript::reports::answer_line` meets its contract. Assumes nothing.
+use borrow.Author.Needs.{needs}
+use mathlib.Core.Path.{ap, _∙_}
+use Rattle.terms.specs.Bytes.{bytes}
+use Rattle.session.specs.Shown.{shownLine}
+use Rattle.whole.specs.Whole.{nat}
+use mir.Syntax.{w32}
+use mir.ValLaws.{toZ-ofZ}
+use Rattle.transcript.specs.Vocabulary.Reported.{answerLine}
+use Rattle.transcript.proofs.Storing.{wrote-as}
+use Rattle.transcript.proofs.reports.answer_line.Statement.{statement}
+use Rattle.transcript.proofs.reports.answer_line.Tie as tie
+
+slice-aggregate-line : tie.Need-slice-aggregate-line
+slice-aggregate-line c = search needs
+
+natural-requires : tie.Need-natural-requires
+natural-requires c κs = search needs
+
+line-requires : tie.Need-line-requires
+line-requires c κs = search needs
+
+same-length : tie.Need-same-length
+same-length c = search needs
+
+returns : tie.Need-returns
+unfolding answerLine
+returns c =
+    let q = c .before .before in
+    let n = q .before .before in
+    let s = n .before .before .before in
+    let e = n .natural .ensures ∙ ap nat (toZ-ofZ w32 _ (s .fits .answer)) in
+    (wrote-as (ap (shownLine (bytes "answer=")) e) (q .line .ensures .0), q .line .ensures .1)
+
+pub answer-line-spec : {M : Type 1} → statement M
+answer-line-spec =
+    tie.close (tie.spec slice-aggregate-line natural-requires line-requires same-length returns)
