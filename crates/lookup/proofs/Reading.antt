@@ -3,9 +3,9 @@
 use Prim.Native.Nat.{ℕ, _+_, _≤_, _<_}
 use mathlib.Core.List.{List, []}
 use mathlib.Core.Option.{some}
-use mathlib.Core.Path.{_≡_, sym, ap, ap₂, subst, _∙_}
+use mathlib.Core.Path.{_≡_, refl, sym, ap, ap₂, subst, _∙_}
 use native.Mathlib.Omega.{arith}
-use lib.ListN.{length, getD, getElem?, take, drop, length-map}
+use lib.ListN.{length, getD, getElem?, take, drop, length-map, length-take, length-drop}
 use Rattle.whole.specs.declared.Worked.{Worked}
 use Rattle.layout.specs.Layout.{Cells}
 use Rattle.terms.specs.declared.Here.{Here}
@@ -19,14 +19,19 @@ use Rattle.terms.specs.Vocabulary.Answers.{surroundings}
 use Rattle.terms.proofs.Following.{mapped-got}
 use Rattle.code.specs.declared.ReadCode.{ReadCode}
 use Rattle.code.specs.declared.ReadStatement.the-variants as Read
-use Rattle.code.specs.Blocks.{shapeOf, shapeNumber, throughAll}
+use Rattle.code.specs.declared.Shape.{Shape}
+use Rattle.code.specs.declared.Shape.the-variants as Shape
+use Rattle.code.specs.Blocks.{shapeOf, shapeNumber, untilElse, untilFi, untilOd, opening, closing, throughAll}
+use Rattle.code.specs.Partners.{goesFrom, goesTo}
 use Rattle.code.specs.Reader.{statement}
 use Rattle.code.specs.Statements.{Statement, Code, skip, set, new, call, get, await, if, else, fi, while, od, return, mapStatement, newOf}
 use Rattle.code.specs.Vocabulary.Answers.{asStatement, argumentsOf, asCode}
 use Rattle.code.specs.Vocabulary.Readers.{statementRead}
 use Rattle.code.specs.Vocabulary.Shapes.{shapesIn}
 use Rattle.code.specs.Within.{CodeWithin}
+use Rattle.code.proofs.Jumps.{partner-ahead, partner-behind}
 use Rattle.code.proofs.Respect.{statement-of-tree}
+use Rattle.code.proofs.Shapes.{shapes-length}
 use Rattle.code.proofs.Told.{new-mapped}
 use Rattle.model.specs.Accepted.{AcceptedModel, AcceptedMethod, AcceptedNew}
 use Rattle.model.specs.Model.{Class}
@@ -42,6 +47,30 @@ use Rattle.rules.specs.Exec.{here, workedOut}
 use Rattle.rules.proofs.Executing.{item-inside}
 use Rattle.lookup.specs.declared.Standing.{Standing}
 use Rattle.lookup.specs.Vocabulary.Found.{Told, StandingIs, Lined, Inside, shapesAt, around}
+
+-- what a line goes to is a line, or the place after the last
+goes-most : (ls : List Shape) → throughAll ls [] ≡ some [] → (i : ℕ) → i < length ls → goesTo ls i ≤ length ls
+unfolding goesTo goesFrom opening closing
+goes-most ls closes i inside = go (getD ls i Shape.Plain) refl
+  where
+    go : (l : Shape) → getD ls i Shape.Plain ≡ l → goesFrom l ls i ≤ length ls
+    go Shape.If e = omega (arith, partner-ahead ls closes i inside untilElse (ap opening e) .1)
+    go Shape.Else e = omega (arith, partner-ahead ls closes i inside untilFi (ap opening e) .1)
+    go Shape.While e = omega (arith, partner-ahead ls closes i inside untilOd (ap opening e) .1)
+    go Shape.Od e = omega (arith, partner-behind ls closes i inside untilOd (ap closing e))
+    go Shape.Fi e = omega arith
+    go Shape.Return e = omega arith
+    go Shape.Await e = omega arith
+    go Shape.Plain e = omega arith
+
+-- so the line that a line of a body goes to has a small number
+pub goes-few : (x : List ℕ) (at : Standing) → Lined x at → goesTo (shapesAt x (at .body)) (at .line) ≤ 64
+unfolding shapesAt
+goes-few x at h =
+    let d = at .body in
+    let l = take (d .count) (drop (d .first) x) in
+    let n : length (shapesIn l) ≡ d .count = omega (arith, shapes-length l, length-take (d .count) (drop (d .first) x), length-drop (d .first) x, h .inside) in
+    omega (arith, goes-most (shapesIn l) (h .close) (at .line) (omega (arith, h .line)), h .few)
 
 -- a statement of trees, read with its values worked out
 read-worked : (e : Surroundings) (lim : Limits) (n : ℕ) (v : Text) (p : ℕ) (st : Code) → statement trees guardTrees lim n v ≡ got p st

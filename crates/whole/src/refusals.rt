@@ -30,6 +30,12 @@ pub const NO_CONFIGURATION: u32 = 11;
 // "kind, or object or label not in use"
 pub const NOT_IN_USE: u32 = 12;
 
+// "answers length differs"
+pub const ANSWERS_DIFFER: u32 = 13;
+
+// "budget over 10,000"
+pub const BUDGET_TOO_LARGE: u32 = 14;
+
 // "arrive: stage not 1"
 pub const NOT_INVOKED: u32 = 20;
 

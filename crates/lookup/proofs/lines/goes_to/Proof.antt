@@ -2,38 +2,20 @@
 use Prim.Native.Nat.{ℕ, _+_, _-_, _≤_, _<_}
 use mathlib.Core.List.{List, []}
 use mathlib.Core.Option.{some}
-use mathlib.Core.Path.{_≡_, refl, ap, _∙_}
+use mathlib.Core.Path.{_≡_, ap, _∙_}
 use native.Mathlib.Omega.{arith}
 use denote.Ref.{now}
-use lib.ListN.{length, getD, take, drop, length-take, length-drop}
-use Rattle.code.specs.declared.Shape.{Shape}
-use Rattle.code.specs.declared.Shape.the-variants as Shape
-use Rattle.code.specs.Blocks.{untilElse, untilFi, untilOd, opening, closing, throughAll}
-use Rattle.code.specs.Partners.{goesFrom, goesTo}
+use lib.ListN.{length, take, drop, length-take, length-drop}
+use Rattle.code.specs.Blocks.{throughAll}
+use Rattle.code.specs.Partners.{goesTo}
 use Rattle.code.specs.Vocabulary.Shapes.{shapesIn}
-use Rattle.code.proofs.Jumps.{partner-ahead, partner-behind}
-use Rattle.code.proofs.Shapes.{shapes-length}
 use Rattle.lookup.specs.declared.Body.{Body}
 use Rattle.lookup.specs.declared.Standing.{Standing}
 use Rattle.lookup.specs.Vocabulary.Found.{shapesAt, Lined}
+use Rattle.lookup.proofs.Reading.{goes-few}
 use borrow.Author.Needs.{needs}
 use Rattle.lookup.proofs.lines.goes_to.Statement.{statement}
 use Rattle.lookup.proofs.lines.goes_to.Tie as tie
-
--- what a line goes to is a line, or the place after the last
-goes-most : (ls : List Shape) → throughAll ls [] ≡ some [] → (i : ℕ) → i < length ls → goesTo ls i ≤ length ls
-unfolding goesTo goesFrom opening closing
-goes-most ls closes i inside = go (getD ls i Shape.Plain) refl
-  where
-    go : (l : Shape) → getD ls i Shape.Plain ≡ l → goesFrom l ls i ≤ length ls
-    go Shape.If e = omega (arith, partner-ahead ls closes i inside untilElse (ap opening e) .1)
-    go Shape.Else e = omega (arith, partner-ahead ls closes i inside untilFi (ap opening e) .1)
-    go Shape.While e = omega (arith, partner-ahead ls closes i inside untilOd (ap opening e) .1)
-    go Shape.Od e = omega (arith, partner-behind ls closes i inside untilOd (ap closing e))
-    go Shape.Fi e = omega arith
-    go Shape.Return e = omega arith
-    go Shape.Await e = omega arith
-    go Shape.Plain e = omega arith
 
 -- the part of the shapes that the code lends
 abbrev lent : List ℕ → Body → List ℕ
@@ -55,11 +37,7 @@ module _ (x : List ℕ) (at : Standing) (h : Lined x at) where
 
   -- so what it goes to is a small number
   lent-small : goesTo (shapesIn (lent x (at .body))) (at .line) < 65536
-  lent-small =
-      let d = at .body in
-      let l = lent x d in
-      let n = shapes-length l in
-      omega (arith, goes-most (shapesIn l) lent-close (at .line) (omega (arith, lent-line)), length-take (d .first + d .count - d .first) (drop (d .first) x), h .few)
+  lent-small = omega (arith, ap (λ l. goesTo l (at .line)) (lent-shapes x (at .body)), goes-few x at h)
 
 cast-first : tie.Need-cast-first
 cast-first c = search needs
