@@ -1,14 +1,32 @@
--- No second result fits: what an entry's own contract says, as it is read from the function, leaves one answer. Assumes nothing.
+-- No second result fits: what an entry's own contract says, as it is read from the function, leaves one answer and one list of cells. Assumes
+-- nothing.
 use mathlib.Core.Path.{_≡_, sym, _∙_}
 use borrow.Fn.Kinds.{endedOf}
 use borrow.Fn.World.{ArgsD, ResD}
 use contract.Lifetimes.{Lfts}
+use denote.Ref.{now}
 use denote.Triple.Clauses.{AtExit}
 use Rattle.creol.proofs.creol_judge.{signature}
 use Rattle.creol.proofs.creol_judge.Kinds as kinds
 use Rattle.creol.proofs.creol_judge.Reads as reads
+use Rattle.creol.proofs.creol_start as start
+use Rattle.creol.proofs.creol_start.Kinds as start-kinds
+use Rattle.creol.proofs.creol_start.Reads as start-reads
+use Rattle.creol.proofs.creol_step as step
+use Rattle.creol.proofs.creol_step.Kinds as step-kinds
+use Rattle.creol.proofs.creol_step.Reads as step-reads
 
 -- creol_judge: two answers that its contract allows for one text are one
 pub only-judge : (κs : Lfts 1) (text : ArgsD signature κs) (x y : ResD signature κs) (s t : AtExit (endedOf 1 kinds.ps kinds.r) κs)
     → reads.Post κs text x s → reads.Post κs text y t → x ≡ y
 only-judge κs text x y s t p q = p ∙ sym q
+
+-- creol_start: two answers, each with the cells afterwards, that its contract allows for one text and one list of cells
+pub only-start : (κs : Lfts 2) (lent : ArgsD start.signature κs) (x y : ResD start.signature κs) (s t : AtExit (endedOf 2 start-kinds.ps start-kinds.r) κs)
+    → start-reads.Post κs lent x s → start-reads.Post κs lent y t → (x ≡ y) × (now (s .1 .0) ≡ now (t .1 .0))
+only-start κs lent x y s t p q = (p .0 ∙ sym (q .0), p .1 ∙ sym (q .1))
+
+-- creol_step: the same, for one text, one list of cells, one kind and one number
+pub only-step : (κs : Lfts 2) (lent : ArgsD step.signature κs) (x y : ResD step.signature κs) (s t : AtExit (endedOf 2 step-kinds.ps step-kinds.r) κs)
+    → step-reads.Post κs lent x s → step-reads.Post κs lent y t → (x ≡ y) × (now (s .1 .0) ≡ now (t .1 .0))
+only-step κs lent x y s t p q = (p .0 ∙ sym (q .0), p .1 ∙ sym (q .1))

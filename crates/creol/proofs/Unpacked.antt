@@ -2,20 +2,43 @@
 use Prim.Native.Nat.{_^_, _<_}
 use mathlib.Core.Path.{_≡_}
 use native.Mathlib.Omega.{arith}
+use Rattle.layout.specs.Layout.{Cells}
 use Rattle.terms.specs.Bytes.{Text}
+use Rattle.model.specs.declared.Verdict.{Verdict}
 use Rattle.model.specs.Judge.{judge}
-use Rattle.model.proofs.VerdictBounds.{judge-small}
+use Rattle.rules.specs.declared.Choice.{Choice}
+use Rattle.engine.specs.Entries.{start, step}
+use Rattle.entries.proofs.AnswerBounds.{SmallVerdict, judge-small-verdict, start-small, step-small}
 use Rattle.creol.specs.Vocabulary.Packed.{packed}
 
--- two texts with one answer have one verdict: number and line
-pub told-apart : (s t : Text) → packed (judge s) ≡ packed (judge t) → (judge s .number ≡ judge t .number) × (judge s .line ≡ judge t .line)
+-- two small verdicts with one answer are one: number and line. And the answer has nothing above 2^32
+told : (v w : Verdict) → SmallVerdict v → SmallVerdict w → packed v ≡ packed w → (v .number ≡ w .number) × (v .line ≡ w .line)
 unfolding packed
-told-apart s t e =
-    let a = judge-small s in
-    let b = judge-small t in
-    (omega (arith, a .0, b .0), omega (arith, a .0, b .0))
+told v w a b e = (omega (arith, a .0, b .0), omega (arith, a .0, b .0))
 
--- and the answer has nothing above 2^32
-pub answer-small : (s : Text) → packed (judge s) < 2 ^ 32
+below : (v : Verdict) → SmallVerdict v → packed v < 2 ^ 32
 unfolding packed
-answer-small s = let a = judge-small s in omega (arith, a .0, a .1)
+below v a = omega (arith, a .0, a .1)
+
+-- of two texts
+pub told-apart : (s t : Text) → packed (judge s) ≡ packed (judge t) → (judge s .number ≡ judge t .number) × (judge s .line ≡ judge t .line)
+told-apart s t = told (judge s) (judge t) (judge-small-verdict s) (judge-small-verdict t)
+
+pub answer-small : (s : Text) → packed (judge s) < 2 ^ 32
+answer-small s = below (judge s) (judge-small-verdict s)
+
+-- of two starts
+pub start-told-apart : (s t : Text) (c d : Cells) → packed (start s c .verdict) ≡ packed (start t d .verdict)
+    → (start s c .verdict .number ≡ start t d .verdict .number) × (start s c .verdict .line ≡ start t d .verdict .line)
+start-told-apart s t c d = told _ _ (start-small s c) (start-small t d)
+
+pub start-answer-small : (s : Text) (c : Cells) → packed (start s c .verdict) < 2 ^ 32
+start-answer-small s c = below _ (start-small s c)
+
+-- of two steps
+pub step-told-apart : (s t : Text) (c d : Cells) (x y : Choice) → packed (step s c x .verdict) ≡ packed (step t d y .verdict)
+    → (step s c x .verdict .number ≡ step t d y .verdict .number) × (step s c x .verdict .line ≡ step t d y .verdict .line)
+step-told-apart s t c d x y = told _ _ (step-small s c x) (step-small t d y)
+
+pub step-answer-small : (s : Text) (c : Cells) (x : Choice) → packed (step s c x .verdict) < 2 ^ 32
+step-answer-small s c x = below _ (step-small s c x)

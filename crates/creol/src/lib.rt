@@ -2,8 +2,10 @@
 // number + 2^8 * column + 2^16 * line + 2^32 * steps + 2^48 * quiet
 use model::Verdict;
 use model::judging;
+use rules::Choice;
 ghost use mathlib.Core.Path.{_≡_};
 ghost use Rattle.model.specs.Judge as Judge;
+ghost use Rattle.engine.specs.Entries as Entries;
 ghost use Rattle.creol.specs.Vocabulary.Packed as Packed;
 
 // A verdict has a number and a line, and nothing above them.
@@ -19,4 +21,22 @@ pub extern "C" fn creol_judge(text: &[u8]) -> u64
     ensures { λ r. ⌜ r ≡ Packed.packed (Judge.judge (now (text .entry))) ⌝ }
 {
     packed(judging::judge(text))
+}
+
+// Start: the first configuration of a text, written over whatever the cells held.
+#[no_mangle]
+pub extern "C" fn creol_start(text: &[u8], cells: &mut [i32]) -> u64
+    ensures { λ r. ⌜ r ≡ Packed.packed (Entries.start (now (text .entry)) (now (cells .entry)) .verdict) ⌝ }
+    ensures { λ _. ⌜ now (cells .exit) ≡ Entries.start (now (text .entry)) (now (cells .entry)) .cells ⌝ }
+{
+    packed(entries::start(text, cells))
+}
+
+// Step: one choice, a kind with its number.
+#[no_mangle]
+pub extern "C" fn creol_step(text: &[u8], cells: &mut [i32], kind: i32, number: i32) -> u64
+    ensures { λ r. ⌜ r ≡ Packed.packed (Entries.step (now (text .entry)) (now (cells .entry)) (record { kind = kind; number = number }) .verdict) ⌝ }
+    ensures { λ _. ⌜ now (cells .exit) ≡ Entries.step (now (text .entry)) (now (cells .entry)) (record { kind = kind; number = number }) .cells ⌝ }
+{
+    packed(entries::step(text, cells, Choice { kind, number }))
 }

@@ -1,0 +1,21 @@
+-- `creol::creol_start` meets its contract. Assumes nothing.
+use Rattle.creol.specs.Vocabulary.Packed.{packed}
+use borrow.Author.Needs.{needs}
+use mathlib.Core.Path.{ap, _∙_}
+use Rattle.creol.proofs.creol_start.Statement.{statement}
+use Rattle.creol.proofs.creol_start.Tie as tie
+
+start-requires : tie.Need-start-requires
+start-requires c κs = search needs
+
+packed-requires : tie.Need-packed-requires
+packed-requires c κs = search needs
+
+same-length : tie.Need-same-length
+same-length c = search needs
+
+returns : tie.Need-returns
+returns c = let e = c .before .before .start .ensures in (c .packed .ensures ∙ ap packed (e .0), e .1)
+
+pub creol-start-spec : {M : Type 1} → statement M
+creol-start-spec = tie.close (tie.spec start-requires packed-requires same-length returns)

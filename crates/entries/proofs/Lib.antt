@@ -1,0 +1,5 @@
+-- What is proved of the entries beyond their contracts.
+pub mod AnswerBounds
+mod Freshly
+pub mod Only
+mod Outcomes
