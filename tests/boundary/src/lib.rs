@@ -1,11 +1,14 @@
 //! The proved libraries as safe Rust functions.
 //!
-//! Each module wraps one static library. A library that was not there when this
-//! package was built leaves its wrappers out (see `build.rs`); what decodes its
-//! answers is there always.
+//! `creol` and `probe` each wrap one static library. A library that was not there
+//! when this package was built leaves its wrappers out (see `build.rs`); what decodes
+//! its answers is there always. The other modules are what the tests and the
+//! benchmark share.
 
 #![deny(unsafe_op_in_unsafe_fn)]
 
 pub mod creol;
+pub mod places;
 pub mod probe;
 pub mod session;
+pub mod texts;

@@ -2,8 +2,8 @@
 
 #![cfg(have_creol)]
 
-use boundary::creol;
 use boundary::session::MODEL;
+use boundary::{creol, texts};
 use independent::expression::Limits;
 use independent::generate::{self, Random};
 use independent::{Verdict, LINE_BYTES, TEXT_BYTES};
@@ -45,17 +45,6 @@ fn shown(text: &[u8]) -> String {
     format!("{} bytes\n{}", text.len(), beginning.escape_ascii())
 }
 
-/// A model of one class with all variables, whose run has this code.
-fn alone(code: &[&str]) -> String {
-    let mut text = String::from("creol=1\nclasses=1\nclass=0\nattrs=8\ngiven=0\nrun=1\n");
-    text += "methods=1\nmethod=0\nparams=0\nlocals=8\n";
-    text += &format!("lines={}\n", code.len());
-    for value in code {
-        text += &format!("code={value}\n");
-    }
-    text
-}
-
 /// The lines of a text without their LF.
 fn lines_of(text: &[u8]) -> Vec<&[u8]> {
     let text = text.strip_suffix(b"\n").unwrap_or(text);
@@ -73,37 +62,6 @@ fn with_line(text: &[u8], line: usize, replacement: &[u8]) -> Vec<u8> {
     let mut lines = lines_of(text);
     lines[line] = replacement;
     joined(&lines)
-}
-
-/// A valid text of exactly so many bytes, from about 7,500 up to past the limit.
-fn text_of_length(bytes: usize) -> Vec<u8> {
-    const FIRST: &str = "code=set a0 ";
-    let mut head = vec![
-        "creol=1",
-        "classes=1",
-        "class=0",
-        "attrs=1",
-        "given=0",
-        "run=1",
-    ];
-    head.push("methods=8");
-    let mut lines: Vec<String> = head.iter().map(|line| line.to_string()).collect();
-    for method in 0..8 {
-        lines.push(format!("method={method}"));
-        lines.extend(["params=0", "locals=0", "lines=64"].map(str::to_string));
-        lines.extend(vec![format!("{FIRST}1"); 63]);
-        lines.push("code=return 0".to_string());
-    }
-    let length: usize = lines.iter().map(|line| line.len() + 1).sum();
-    let mut missing = bytes.checked_sub(length).expect("bytes for all lines");
-    for line in lines.iter_mut().filter(|line| line.starts_with(FIRST)) {
-        let more = missing.min(LINE_BYTES - line.len());
-        missing -= more;
-        line.push_str(if more % 2 == 1 { "0" } else { "" });
-        line.push_str(&"+1".repeat(more / 2));
-    }
-    assert_eq!(missing, 0, "{bytes} bytes are too many");
-    (lines.join("\n") + "\n").into_bytes()
 }
 
 /// Generated texts, good ones and each with many faults; some past the limit.
@@ -454,7 +412,7 @@ fn lengths_of_lines() {
         if value.ends_with('+') {
             value.replace_range(value.len() - 1.., "0");
         }
-        let verdict = tally.compare_string(&alone(&["skip", &value]));
+        let verdict = tally.compare_string(&texts::alone(&["skip", &value]));
         assert_eq!(verdict.is_accepted(), length <= LINE_BYTES, "{length}");
     }
     tally.demand(&[0, 2, 4], 100);
@@ -469,7 +427,7 @@ fn lengths_of_texts() {
         .step_by(97)
         .chain(TEXT_BYTES - 20..TEXT_BYTES + 20)
     {
-        let text = text_of_length(length);
+        let text = texts::of_length(length);
         assert_eq!(text.len(), length);
         let verdict = tally.compare(&text);
         let expected = Verdict {
@@ -478,7 +436,7 @@ fn lengths_of_texts() {
         };
         assert_eq!(verdict, expected, "{length}");
     }
-    let longest = text_of_length(TEXT_BYTES);
+    let longest = texts::of_length(TEXT_BYTES);
     let mut random = Random::new(4_000_000);
     for _ in 0..1_000 {
         tally.compare(&generate::damaged_text(&mut random, &longest));
@@ -516,9 +474,9 @@ fn blocks() {
         };
         orders = orders.iter().flat_map(longer).collect();
         for order in &mut orders {
-            tally.compare_string(&alone(order));
+            tally.compare_string(&texts::alone(order));
             order.push("return 0");
-            tally.compare_string(&alone(order));
+            tally.compare_string(&texts::alone(order));
             order.pop();
         }
     }
@@ -549,7 +507,7 @@ fn blocks() {
                 _ => code[place] = *random.pick(&STATEMENTS),
             }
         }
-        tally.compare_string(&alone(&code));
+        tally.compare_string(&texts::alone(&code));
     }
     tally.demand(&[0, 6], 1_000);
 }
@@ -611,11 +569,11 @@ fn statements() {
     for value in VALUES {
         let mut judge = |value: &[u8]| {
             // Alone, so that a block line may be 6; and as the last line.
-            let mut text = alone(&["", "return 0"]).into_bytes();
+            let mut text = texts::alone(&["", "return 0"]).into_bytes();
             let place = text.len() - "\ncode=return 0\n".len();
             text.splice(place..place, value.iter().copied());
             tally.compare(&text);
-            let mut text = alone(&["skip", ""]).into_bytes();
+            let mut text = texts::alone(&["skip", ""]).into_bytes();
             let place = text.len() - 1;
             text.splice(place..place, value.iter().copied());
             tally.compare(&text);

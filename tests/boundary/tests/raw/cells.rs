@@ -1,9 +1,12 @@
 //! Cells to lend: those of configurations, garbage, and others in number.
 
+use boundary::places::{
+    call_cell, object_cell, ATTRIBUTES, CALLER, CALLS, CLEARED, LOCALS, OBJECTS, STAGE,
+};
 use independent::configuration::{Configuration, CALL_ROWS, CELLS, OBJECT_ROWS};
 use independent::generate::{self, Random};
 
-use super::{call_cell, object_cell, CALLER, CLEARED, REPLY_IN, STAGE};
+use super::REPLY_IN;
 
 /// Values at the ends of the range, and where sums and products leave it.
 const VALUES: [i32; 16] = [
@@ -121,8 +124,8 @@ fn value(random: &mut Random) -> i32 {
 /// replies among them, and numbers that no short run comes to.
 fn with_values(random: &mut Random) -> Vec<i32> {
     let (_, mut cells) = generate::configuration(random);
-    let objects = cells[0] as usize;
-    let calls = cells[1] as usize;
+    let objects = cells[OBJECTS] as usize;
+    let calls = cells[CALLS] as usize;
     for label in 1..=calls {
         if random.percent(40) {
             cells[call_cell(label, STAGE)] = random.between(5, 7) as i32;
@@ -132,10 +135,10 @@ fn with_values(random: &mut Random) -> Vec<i32> {
     }
     for index in 0..8 {
         for object in 1..=objects {
-            cells[object_cell(object, 2 + index)] = label_or_value(random, calls);
+            cells[object_cell(object, ATTRIBUTES + index)] = label_or_value(random, calls);
         }
         for label in 1..=calls {
-            cells[call_cell(label, 8 + index)] = label_or_value(random, calls);
+            cells[call_cell(label, LOCALS + index)] = label_or_value(random, calls);
         }
     }
     cells
@@ -155,12 +158,12 @@ fn small_garbage(random: &mut Random) -> Vec<i32> {
         .map(|_| random.between(0, 9) as i32 - 1)
         .collect();
     let most = *random.pick(&[8, 12, 128, 129, 200, 100_000]);
-    cells[0] = value(random);
-    cells[1] = match random.percent(80) {
+    cells[OBJECTS] = value(random);
+    cells[CALLS] = match random.percent(80) {
         true => random.between(0, most) as i32,
         false => value(random),
     };
-    let calls = cells[1].clamp(0, 250) as usize;
+    let calls = cells[CALLS].clamp(0, 250) as usize;
     for label in 1..=CALL_ROWS {
         cells[call_cell(label, STAGE)] = *random.pick(&[5, REPLY_IN, REPLY_IN, REPLY_IN, 7, 262]);
         cells[call_cell(label, CALLER)] = match random.percent(90) {
@@ -169,12 +172,12 @@ fn small_garbage(random: &mut Random) -> Vec<i32> {
         };
         cells[call_cell(label, CLEARED)] = *random.pick(&[0, 1, 1, 2, -1, 257]);
         for index in 0..8 {
-            cells[call_cell(label, 8 + index)] = label_or_value(random, calls);
+            cells[call_cell(label, LOCALS + index)] = label_or_value(random, calls);
         }
     }
     for object in 1..=OBJECT_ROWS {
         for index in 0..8 {
-            cells[object_cell(object, 2 + index)] = label_or_value(random, calls);
+            cells[object_cell(object, ATTRIBUTES + index)] = label_or_value(random, calls);
         }
     }
     cells

@@ -7,6 +7,7 @@
 
 mod cells;
 
+use boundary::places::{call_cell, object_cell, ATTRIBUTES, CALLER, CALLS, CLEARED, LOCALS, STAGE};
 pub use cells::Lent;
 
 /// Cells, and the object and the call that a term is worked out in. A cell that is
@@ -18,20 +19,7 @@ pub struct Raw<'c> {
     pub label: u32,
 }
 
-const STAGE: usize = 0;
-const CALLER: usize = 1;
-const CLEARED: usize = 6;
 const REPLY_IN: i32 = 6;
-
-/// The cell of a field of an object's row, counted from 1.
-pub fn object_cell(object: usize, field: usize) -> usize {
-    2 + 10 * (object - 1) + field
-}
-
-/// The cell of a field of a call's row, counted from 1.
-pub fn call_cell(label: usize, field: usize) -> usize {
-    2 + 32 * 10 + 16 * (label - 1) + field
-}
 
 impl Raw<'_> {
     /// The value of an expression; None where a result is out of range.
@@ -89,14 +77,14 @@ impl Raw<'_> {
     fn variable(&self, name: &[u8]) -> i32 {
         let index = usize::from(name[1] - b'0');
         match name[0] {
-            b'a' => self.cell(object_cell(usize::from(self.object), 2 + index)),
-            _ => self.of_call(8 + index),
+            b'a' => self.cell(object_cell(usize::from(self.object), ATTRIBUTES + index)),
+            _ => self.of_call(LOCALS + index),
         }
     }
 
     /// Whether the number is a label in use, with its reply in and this object's.
     fn is_reply(&self, number: i32) -> bool {
-        if !(1..=self.cell(1)).contains(&number) {
+        if !(1..=self.cell(CALLS)).contains(&number) {
             return false;
         }
         let of_label = |field| self.cell(call_cell(number as usize, field));
