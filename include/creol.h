@@ -1,11 +1,13 @@
 /* The entries of the Creol engine for programs in C: link libcreol.a.
  *
- * Every function takes any bytes of any number, and gives one answer:
+ * Every function takes any bytes of any number, any cells of any number and any choice, and gives one answer:
  *
  *     number + 2^8 * column + 2^16 * line + 2^32 * steps + 2^48 * quiet
  *
  * The number is 0 for an acceptance, and else that of the refusal; the line is counted from 1,
- * and 0 where the number names none. Verdicts on a text have no column, no steps and no quiet.
+ * and 0 where the number names none. Judge, start and step give no column, no steps and no quiet.
+ *
+ * No function keeps a pointer. A text or cells of length 0 may have a null pointer.
  */
 #ifndef CREOL_H
 #define CREOL_H
@@ -17,8 +19,22 @@
 extern "C" {
 #endif
 
-/* The verdict on a model text. It reads the text alone, and keeps no pointer. An empty text may have a null pointer. */
+/* The cells of a configuration: objects, calls, 32 rows of 10 for the objects, and 128 rows of 16 for the calls. */
+#define CREOL_CELLS 2370
+
+/* The kinds of a choice. The number that goes with an exec is an object's, with each other kind a label's. */
+enum { CREOL_EXEC = 1, CREOL_ARRIVE = 2, CREOL_BIND = 3, CREOL_START = 4, CREOL_DELIVER = 5 };
+
+/* The verdict on a model text. It reads the text alone. */
 uint64_t creol_judge(const uint8_t *text, size_t text_len);
+
+/* The start of a model. It reads the text, and not what the cells hold. An acceptance writes every cell; a refusal
+ * writes none. The cells must not overlap the text. */
+uint64_t creol_start(const uint8_t *text, size_t text_len, int32_t *cells, size_t cells_len);
+
+/* One step, by a choice: a kind and a number. It reads the text and the cells. An acceptance writes the next
+ * configuration in the cells; a refusal writes none. The cells must not overlap the text. */
+uint64_t creol_step(const uint8_t *text, size_t text_len, int32_t *cells, size_t cells_len, int32_t kind, int32_t number);
 
 #ifdef __cplusplus
 }
