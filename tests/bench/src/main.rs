@@ -1,5 +1,5 @@
-//! How fast the proved library judges texts, beside the independent engine: the
-//! same texts, one run, in turns. `cargo run --release -p bench`.
+//! How fast the proved library is beside the independent engine: judge, start and
+//! step on the same texts, one run, in turns. `cargo run --release -p bench`.
 //!
 //! The ratio is the engine's time by the library's: from 1.0 on the library is as
 //! fast or faster.
@@ -7,45 +7,70 @@
 use std::hint::black_box;
 use std::time::{Duration, Instant};
 
-use boundary::session::MODEL;
-use boundary::{creol, texts};
+use boundary::creol::{Entries, EXEC};
+use boundary::places::{CALLS, OBJECTS};
+use boundary::session::{CHOICES, MODEL};
+use boundary::texts;
+use independent::configuration::CELLS;
 use independent::generate::{self, Random};
-use independent::Verdict;
+use independent::{Choice, Verdict};
 
-type Judge = fn(&[u8]) -> Verdict;
-
-const ROUNDS: usize = 61;
-/// How long a judge is at it in a round, at least. Rounds are short, so that what
-/// else the machine does falls on both judges alike.
-const TURN: Duration = Duration::from_millis(5);
+const ROUNDS: usize = 401;
+/// How long an engine is at it in a round, at least. Rounds are short and many, so
+/// that each engine has some in which the machine does nothing else.
+const TURN: Duration = Duration::from_millis(1);
+/// So many steps are measured together, where a text has them.
+const STEPS: usize = 8;
 
 fn main() {
-    let Some(proved) = creol::judge_if_linked() else {
+    let Some(proved) = Entries::linked() else {
         println!("libcreol.a is missing: run `rt staticlib creol` in the repository's root");
         return;
     };
-    println!("text                        bytes    proved ns  independent ns   ratio");
-    for (name, text) in texts() {
-        let expected = independent::judge(&text);
-        assert_eq!(proved(&text), expected, "{name}");
-        assert!(expected.is_accepted(), "{name}: {expected:?}");
-        let (proved, independent) = compared(&text, proved, independent::judge);
-        let ratio = independent / proved;
-        let bytes = text.len();
-        println!("{name:<24} {bytes:>8} {proved:>12.0} {independent:>15.0} {ratio:>7.2}");
+    let engines = [proved, Entries::INDEPENDENT];
+    println!("entry  text                  bytes    proved ns  independent ns   ratio");
+    for (name, text, choices) in measured() {
+        let judge = compared(engines, |engine| {
+            assert_accepted(black_box((engine.judge)(black_box(&text))));
+        });
+        let mut cells = vec![0; CELLS];
+        let start = compared(engines, |engine| {
+            assert_accepted(black_box((engine.start)(
+                black_box(&text),
+                black_box(&mut cells),
+            )));
+        });
+        let step = compared_steps(engines, &text, &choices);
+        for (entry, [proved, independent]) in [("judge", judge), ("start", start), ("step", step)] {
+            let (bytes, ratio) = (text.len(), independent / proved);
+            println!(
+                "{entry:<6} {name:<18} {bytes:>8} {proved:>12.0} {independent:>15.0} {ratio:>7.2}"
+            );
+        }
     }
 }
 
-fn texts() -> Vec<(&'static str, Vec<u8>)> {
-    vec![
-        ("the session", MODEL.as_bytes().to_vec()),
+fn assert_accepted(verdict: Verdict) {
+    assert!(verdict.is_accepted(), "{verdict:?}");
+}
+
+/// Texts, and choices from their start on: those of the session, in which three are
+/// refused; of each other text the first that are accepted.
+fn measured() -> Vec<(&'static str, Vec<u8>, Vec<Choice>)> {
+    let texts = [
         ("generated", generated_text()),
         (
             "long expressions",
             generate::large_text(&mut Random::new(1)),
         ),
         ("all statements", texts::dense()),
-    ]
+    ];
+    let session = ("the session", MODEL.as_bytes().to_vec(), CHOICES.to_vec());
+    let others = texts.map(|(name, text)| {
+        let choices = accepted_choices(&text);
+        (name, text, choices)
+    });
+    [session].into_iter().chain(others).collect()
 }
 
 /// The generated text, among many, whose length is nearest to 12 KB.
@@ -56,40 +81,85 @@ fn generated_text() -> Vec<u8> {
         .expect("some texts")
 }
 
-/// The nanoseconds of a call, of each of the two: medians over the rounds.
-fn compared(text: &[u8], first: Judge, second: Judge) -> (f64, f64) {
-    let judges = [first, second];
-    let calls = judges.map(|judge| calls_in_a_turn(text, judge));
+/// The choices that a drive takes, up to so many.
+fn accepted_choices(text: &[u8]) -> Vec<Choice> {
+    let mut cells = vec![0; CELLS];
+    assert_accepted(independent::start(text, &mut cells));
+    let mut choices = Vec::new();
+    while choices.len() < STEPS {
+        let in_use = |kind| cells[if kind == EXEC { OBJECTS } else { CALLS }];
+        let mut all = (1..=5)
+            .flat_map(|kind| (1..=in_use(kind)).map(move |number| Choice { kind, number }))
+            .collect::<Vec<_>>()
+            .into_iter();
+        let is_taken = |choice: &Choice| {
+            independent::step(text, &mut cells, choice.kind, choice.number).is_accepted()
+        };
+        let Some(taken) = all.find(is_taken) else {
+            break;
+        };
+        choices.push(taken);
+    }
+    assert!(!choices.is_empty(), "no choice is accepted");
+    choices
+}
+
+/// The nanoseconds of a step. Each engine steps from the start's cells on, which are
+/// put back before the first of the choices: so the cells are warm for both.
+fn compared_steps(engines: [Entries; 2], text: &[u8], choices: &[Choice]) -> [f64; 2] {
+    let mut fresh = vec![0; CELLS];
+    assert_accepted(independent::start(text, &mut fresh));
+    let [ends, expected] = engines.map(|engine| {
+        let mut cells = fresh.clone();
+        let step = |choice: &Choice| (engine.step)(text, &mut cells, choice.kind, choice.number);
+        let verdicts: Vec<Verdict> = choices.iter().map(step).collect();
+        (verdicts, cells)
+    });
+    assert_eq!(ends, expected, "the engines differ");
+    let mut cells = fresh.clone();
+    let times = compared(engines, |engine| {
+        cells.copy_from_slice(&fresh);
+        for choice in choices {
+            black_box((engine.step)(
+                black_box(text),
+                black_box(&mut cells),
+                choice.kind,
+                choice.number,
+            ));
+        }
+    });
+    times.map(|time| time / choices.len() as f64)
+}
+
+/// The nanoseconds of this work, with each of the two: those of its quickest round.
+/// What else the machine does only adds to a round. Beside other work the median of
+/// one engine is at times four times that of the same engine.
+fn compared(engines: [Entries; 2], mut work: impl FnMut(&Entries)) -> [f64; 2] {
+    let turns = engines.map(|engine| turns_in_a_round(&engine, &mut work));
     let mut times = [Vec::new(), Vec::new()];
     for round in 0..ROUNDS {
         // Each goes first in every other round.
         for turn in 0..2 {
             let which = (round + turn) % 2;
-            let time = timed(text, judges[which], calls[which]);
-            times[which].push(time.as_nanos() as f64 / f64::from(calls[which]));
+            let time = timed(&engines[which], turns[which], &mut work);
+            times[which].push(time.as_nanos() as f64 / f64::from(turns[which]));
         }
     }
-    let [first, second] = times.map(median);
-    (first, second)
+    times.map(|times| times.into_iter().fold(f64::INFINITY, f64::min))
 }
 
-fn calls_in_a_turn(text: &[u8], judge: Judge) -> u32 {
-    let mut calls = 1;
-    while timed(text, judge, calls) < TURN {
-        calls *= 2;
+fn turns_in_a_round(engine: &Entries, work: &mut impl FnMut(&Entries)) -> u32 {
+    let mut turns = 1;
+    while timed(engine, turns, work) < TURN {
+        turns *= 2;
     }
-    calls
+    turns
 }
 
-fn timed(text: &[u8], judge: Judge, calls: u32) -> Duration {
+fn timed(engine: &Entries, turns: u32, work: &mut impl FnMut(&Entries)) -> Duration {
     let start = Instant::now();
-    for _ in 0..calls {
-        black_box(judge(black_box(text)));
+    for _ in 0..turns {
+        work(engine);
     }
     start.elapsed()
-}
-
-fn median(mut times: Vec<f64>) -> f64 {
-    times.sort_by(f64::total_cmp);
-    times[times.len() / 2]
 }

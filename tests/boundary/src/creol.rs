@@ -2,9 +2,27 @@
 
 pub use independent::Verdict;
 
+/// The kinds of a choice. An exec is of an object, the others are of a label.
+pub const EXEC: i32 = 1;
+pub const ARRIVE: i32 = 2;
+pub const BIND: i32 = 3;
+pub const START: i32 = 4;
+pub const DELIVER: i32 = 5;
+
 #[cfg(have_creol)]
 extern "C" {
     fn creol_judge(text: *const u8, text_len: usize) -> u64;
+
+    fn creol_start(text: *const u8, text_len: usize, cells: *mut i32, cells_len: usize) -> u64;
+
+    fn creol_step(
+        text: *const u8,
+        text_len: usize,
+        cells: *mut i32,
+        cells_len: usize,
+        kind: i32,
+        number: i32,
+    ) -> u64;
 }
 
 /// The library's verdict on a text.
@@ -16,12 +34,55 @@ pub fn judge(text: &[u8]) -> Verdict {
     decoded(unsafe { creol_judge(text.as_ptr(), text.len()) })
 }
 
-/// The library's [`judge`], for a program that does without it where it is missing.
-pub fn judge_if_linked() -> Option<fn(&[u8]) -> Verdict> {
-    #[cfg(have_creol)]
-    return Some(judge);
-    #[cfg(not(have_creol))]
-    return None;
+/// The library's start of a text, in these cells.
+#[cfg(have_creol)]
+pub fn start(text: &[u8], cells: &mut [i32]) -> Verdict {
+    // SAFETY: each pointer stands with the length of its slice, and both slices
+    // live through the call. The cells are borrowed for it alone, so they are no
+    // part of the text. The function reads the one and writes the other, inside
+    // their lengths, and keeps no pointer. It demands nothing of what they hold,
+    // nor of how much of it there is.
+    decoded(unsafe { creol_start(text.as_ptr(), text.len(), cells.as_mut_ptr(), cells.len()) })
+}
+
+/// The library's step: the choice is a kind, and an object or a label.
+#[cfg(have_creol)]
+pub fn step(text: &[u8], cells: &mut [i32], kind: i32, number: i32) -> Verdict {
+    // SAFETY: as for `start`; and it demands nothing of the choice.
+    decoded(unsafe {
+        creol_step(
+            text.as_ptr(),
+            text.len(),
+            cells.as_mut_ptr(),
+            cells.len(),
+            kind,
+            number,
+        )
+    })
+}
+
+/// The entries of one engine. The library and the independent engine have the same.
+#[derive(Clone, Copy)]
+pub struct Entries {
+    pub judge: fn(&[u8]) -> Verdict,
+    pub start: fn(&[u8], &mut [i32]) -> Verdict,
+    pub step: fn(&[u8], &mut [i32], i32, i32) -> Verdict,
+}
+
+impl Entries {
+    pub const INDEPENDENT: Entries = Entries {
+        judge: independent::judge,
+        start: independent::start,
+        step: independent::step,
+    };
+
+    /// The library's, for a program that does without them where it is missing.
+    pub fn linked() -> Option<Entries> {
+        #[cfg(have_creol)]
+        return Some(Entries { judge, start, step });
+        #[cfg(not(have_creol))]
+        return None;
+    }
 }
 
 /// The verdict in an answer that is number + 2^8 * column + 2^16 * line, and
@@ -29,10 +90,7 @@ pub fn judge_if_linked() -> Option<fn(&[u8]) -> Verdict> {
 pub fn decoded(answer: u64) -> Verdict {
     let above = answer >> 32;
     let [number, column, line_low, line_high] = (answer as u32).to_le_bytes();
-    assert!(
-        column == 0 && above == 0,
-        "no verdict on a text: {answer:#x}"
-    );
+    assert!(column == 0 && above == 0, "no verdict: {answer:#x}");
     Verdict {
         number,
         line: u32::from(u16::from_le_bytes([line_low, line_high])),
@@ -49,6 +107,32 @@ mod tests {
         let verdict = |number, line| Verdict { number, line };
         assert_eq!(decoded(5 + (27 << 16)), verdict(5, 27));
         assert_eq!(decoded(3 + (32_769 << 16)), verdict(3, 32_769));
+    }
+
+    /// As include/creol.h says of a text and of cells.
+    #[cfg(have_creol)]
+    #[test]
+    fn a_slice_of_length_0_may_have_a_null_pointer() {
+        let model = crate::session::MODEL.as_bytes();
+        let (text, cells) = (std::ptr::null(), std::ptr::null_mut());
+        // SAFETY: behind a pointer with length 0 there is nothing to read or to write;
+        // the other text is a slice that lives through the calls.
+        let (empty, accepted) = unsafe {
+            (
+                [
+                    creol_judge(text, 0),
+                    creol_start(text, 0, cells, 0),
+                    creol_step(text, 0, cells, 0, EXEC, 1),
+                ],
+                [
+                    creol_start(model.as_ptr(), model.len(), cells, 0),
+                    creol_step(model.as_ptr(), model.len(), cells, 0, EXEC, 1),
+                ],
+            )
+        };
+        let verdict = |number, line| Verdict { number, line };
+        assert_eq!(empty.map(decoded), [verdict(3, 1); 3]);
+        assert_eq!(accepted.map(decoded), [verdict(10, 0); 2]);
     }
 
     #[test]
