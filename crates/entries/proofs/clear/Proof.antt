@@ -1,12 +1,12 @@
 -- `entries::clear` meets its contract. The loop's invariant: so many cells from the first on are 0. Assumes nothing.
-use Prim.Native.Nat.{suc, _+_, _-_, _≤_}
+use Prim.Native.Nat.{_+_, _-_, _≤_}
 use borrow.Author.Needs.{needs}
 use denote.Ref.{now}
 use lib.IntN.{pos}
 use lib.ListN.{length, set, take, replicate, length-set, replicate-append-replicate}
 use lib.Seq.{take-all, take-suc-set}
 use mathlib.Core.List.{_++_, _∷_, []}
-use mathlib.Core.Path.{_≡_, refl, sym, ap, ap₂, _∙_}
+use mathlib.Core.Path.{_≡_, refl, sym, ap, _∙_}
 use native.Mathlib.Numerals.{add-one}
 use native.Mathlib.Omega.{arith}
 use Rattle.entries.proofs.clear.Statement.{statement}

@@ -1,8 +1,7 @@
 -- `entries::on_model` meets its contract. Assumes nothing.
-use Prim.Native.Nat.{ℕ}
 use borrow.Author.Needs.{needs}
 use denote.Ref.{now}
-use mathlib.Core.Path.{_≡_, refl}
+use mathlib.Core.Path.{refl}
 use Rattle.model.specs.Vocabulary.Known.{Known}
 use Rattle.model.specs.Vocabulary.Table.{Sized}
 use Rattle.model.proofs.Knowing.{known}
