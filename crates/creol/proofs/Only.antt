@@ -9,6 +9,9 @@ use denote.Triple.Clauses.{AtExit}
 use Rattle.creol.proofs.creol_judge.{signature}
 use Rattle.creol.proofs.creol_judge.Kinds as kinds
 use Rattle.creol.proofs.creol_judge.Reads as reads
+use Rattle.creol.proofs.creol_run as run
+use Rattle.creol.proofs.creol_run.Kinds as run-kinds
+use Rattle.creol.proofs.creol_run.Reads as run-reads
 use Rattle.creol.proofs.creol_start as start
 use Rattle.creol.proofs.creol_start.Kinds as start-kinds
 use Rattle.creol.proofs.creol_start.Reads as start-reads
@@ -30,3 +33,8 @@ only-start κs lent x y s t p q = (p .0 ∙ sym (q .0), p .1 ∙ sym (q .1))
 pub only-step : (κs : Lfts 2) (lent : ArgsD step.signature κs) (x y : ResD step.signature κs) (s t : AtExit (endedOf 2 step-kinds.ps step-kinds.r) κs)
     → step-reads.Post κs lent x s → step-reads.Post κs lent y t → (x ≡ y) × (now (s .1 .0) ≡ now (t .1 .0))
 only-step κs lent x y s t p q = (p .0 ∙ sym (q .0), p .1 ∙ sym (q .1))
+
+-- creol_run: the same, with the answers afterwards, for one text, one list of cells, one of choices and one of answers
+pub only-run : (κs : Lfts 4) (lent : ArgsD run.signature κs) (x y : ResD run.signature κs) (s t : AtExit (endedOf 4 run-kinds.ps run-kinds.r) κs)
+    → run-reads.Post κs lent x s → run-reads.Post κs lent y t → (x ≡ y) × (now (s .1 .0) ≡ now (t .1 .0)) × (now (s .1 .1 .1 .0) ≡ now (t .1 .1 .1 .0))
+only-run κs lent x y s t p q = (p .0 ∙ sym (q .0), p .1 .0 ∙ sym (q .1 .0), p .1 .1 ∙ sym (q .1 .1))

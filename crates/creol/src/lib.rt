@@ -1,11 +1,13 @@
 // The entries for programs in C and Rust. Each answer is one number:
 // number + 2^8 * column + 2^16 * line + 2^32 * steps + 2^48 * quiet
+use entries::running;
 use model::Verdict;
 use model::judging;
 use rules::Choice;
 ghost use mathlib.Core.Path.{_≡_};
 ghost use Rattle.model.specs.Judge as Judge;
 ghost use Rattle.engine.specs.Entries as Entries;
+ghost use Rattle.entries.specs.Vocabulary.Paired.{paired};
 ghost use Rattle.creol.specs.Vocabulary.Packed as Packed;
 
 // A verdict has a number and a line, and nothing above them.
@@ -39,4 +41,19 @@ pub extern "C" fn creol_step(text: &[u8], cells: &mut [i32], kind: i32, number: 
     ensures { λ _. ⌜ now (cells .exit) ≡ Entries.step (now (text .entry)) (now (cells .entry)) (record { kind = kind; number = number }) .cells ⌝ }
 {
     packed(entries::step(text, cells, Choice { kind, number }))
+}
+
+// Run: a list of choices, kind and number one after the other, and an answer to each in its own place.
+#[no_mangle]
+pub extern "C" fn creol_run(
+    text: &[u8],
+    cells: &mut [i32],
+    choices: &[i32],
+    answers: &mut [i32],
+) -> u64
+    ensures { λ r. ⌜ r ≡ Packed.packed (Entries.run (now (text .entry)) (now (cells .entry)) (paired (now (choices .entry))) (now (answers .entry)) .verdict) ⌝ }
+    ensures { λ _. ⌜ now (cells .exit) ≡ Entries.run (now (text .entry)) (now (cells .entry)) (paired (now (choices .entry))) (now (answers .entry)) .cells ⌝ }
+    ensures { λ _. ⌜ now (answers .exit) ≡ Entries.run (now (text .entry)) (now (cells .entry)) (paired (now (choices .entry))) (now (answers .entry)) .answers ⌝ }
+{
+    packed(running::run(text, cells, choices, answers))
 }

@@ -123,6 +123,11 @@ small-next m c choice =
     small-found (kindOf (choice .kind)) _ _ (omega arith)
     (λ k. small-found (upTo (inUse c k) (choice .number)) _ _ (omega arith) (small-ruled m c k))
 
+-- so its answer fits
+pub answer-small : (m : Model) (c : Cells) (choice : Choice) → answerOf (next m c choice) ≤ 33
+unfolding Small
+answer-small m c choice = small-next m c choice
+
 -- the verdict of an outcome
 abbrev pub SmallVerdict : Verdict → Type 0
 SmallVerdict v = (v .number ≤ 33) × (v .line ≤ 32769)

@@ -2,4 +2,8 @@
 pub mod AnswerBounds
 mod Freshly
 pub mod Only
+pub mod OnlyRun
 mod Outcomes
+mod Pairs
+mod RunOnward
+mod RunOutcomes

@@ -1,4 +1,4 @@
-// The entries start and step: the text judged first, then 10, then (start excepted) 11, then the choice.
+// The entries start, step and run: the text judged first, then 10, then (start excepted) 11, then 13, then the choice.
 use layout::ObjectNumber;
 use layout::stages;
 use layout::writers;
@@ -16,6 +16,8 @@ ghost use Rattle.model.specs.Vocabulary.Table as Table;
 ghost use Rattle.cells.specs.Fresh.{fresh};
 ghost use Rattle.engine.specs.Entries as Entries;
 ghost use Rattle.entries.specs.Vocabulary.Checked as Checked;
+
+pub mod running;
 
 // "2,370 cells"
 const ALL_CELLS: usize = 2370;
