@@ -1,0 +1,29 @@
+//! The models: how they are read, run and compared.
+//!
+//! An [`example::Example`] is a model text, choices and what the runner writes. A
+//! folder of models holds one. A [`walk`] is a table that tells it choice by choice.
+//! Every check gives the [`Faults`] that it found, so that a test can say that a
+//! damaged file has some.
+
+#![forbid(unsafe_code)]
+
+pub mod claims;
+pub mod example;
+pub mod folder;
+pub mod markdown;
+pub mod walk;
+
+use std::path::{Path, PathBuf};
+
+/// What is wrong, each in a sentence; none where all is well.
+pub type Faults = Vec<String>;
+
+/// The repository's root.
+pub fn root() -> PathBuf {
+    Path::new(env!("CARGO_MANIFEST_DIR")).join("../..")
+}
+
+/// A text file as a string.
+pub fn read(path: &Path) -> Result<String, String> {
+    std::fs::read_to_string(path).map_err(|error| format!("{}: {error}", path.display()))
+}
