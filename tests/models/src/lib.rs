@@ -1,15 +1,17 @@
-//! The models: how they are read, run and compared.
+//! The models and the guide's examples: how they are read, run and compared.
 //!
 //! An [`example::Example`] is a model text, choices and what the runner writes. A
-//! folder of models holds one. A [`walk`] is a table that tells it choice by choice.
-//! Every check gives the [`Faults`] that it found, so that a test can say that a
-//! damaged file has some.
+//! folder of models holds one, and so do three fenced blocks of the guide. A
+//! [`walk`] is a table that tells it choice by choice. Every check gives the
+//! [`Faults`] that it found, so that a test can say that a damaged file has some.
 
 #![forbid(unsafe_code)]
 
+pub mod calls;
 pub mod claims;
 pub mod example;
 pub mod folder;
+pub mod guide;
 pub mod markdown;
 pub mod walk;
 
