@@ -2,3 +2,4 @@
 -- document 01 uses it.
 pub mod Checked
 pub mod Paired
+pub mod Searched

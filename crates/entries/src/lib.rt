@@ -1,4 +1,4 @@
-// The entries start, step and run: the text judged first, then 10, then (start excepted) 11, then 13, then the choice.
+// The entries start, step, run and drive: the text judged first, then 10, then (start excepted) 11, then 13 or 14, then the choice.
 use layout::ObjectNumber;
 use layout::stages;
 use layout::writers;
@@ -17,6 +17,7 @@ ghost use Rattle.cells.specs.Fresh.{fresh};
 ghost use Rattle.engine.specs.Entries as Entries;
 ghost use Rattle.entries.specs.Vocabulary.Checked as Checked;
 
+pub mod driving;
 pub mod running;
 
 // "2,370 cells"

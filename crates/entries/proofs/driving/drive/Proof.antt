@@ -1,0 +1,32 @@
+-- `entries::driving::drive` meets its contract. Assumes nothing.
+use borrow.Author.Needs.{needs}
+use denote.Ref.{now}
+use mathlib.Core.List.{[], _∷_}
+use Rattle.entries.specs.Vocabulary.Searched.{kindsOf}
+use Rattle.entries.proofs.Drives.{in-order}
+use Rattle.entries.proofs.Searching.{all-numbers}
+use Rattle.entries.proofs.driving.drive.Statement.{statement}
+use Rattle.entries.proofs.driving.drive.Tie as tie
+
+slice-aggregate-drive-in : tie.Need-slice-aggregate-drive-in
+slice-aggregate-drive-in c = search needs
+
+drive-in-requires : tie.Need-drive-in-requires
+drive-in-requires c κs = search needs
+
+same-length : tie.Need-same-length
+same-length c = search needs
+
+returns : tie.Need-returns
+returns c =
+    let a = c .before .before .before .before .before .args in
+    in-order (now (a .text)) (now (a .cells)) (a .budget) (kindsOf (1 ∷ 2 ∷ 3 ∷ 4 ∷ 5 ∷ [])) all-numbers _ _ _ _ (c .before .drive-in .ensures)
+
+pub drive-spec : {M : Type 1} → statement M
+drive-spec =
+    tie.close
+    (tie.spec
+    slice-aggregate-drive-in
+    drive-in-requires
+    same-length
+    returns)
