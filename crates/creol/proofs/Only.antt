@@ -9,6 +9,9 @@ use denote.Triple.Clauses.{AtExit}
 use Rattle.creol.proofs.creol_judge.{signature}
 use Rattle.creol.proofs.creol_judge.Kinds as kinds
 use Rattle.creol.proofs.creol_judge.Reads as reads
+use Rattle.creol.proofs.creol_drive as drive
+use Rattle.creol.proofs.creol_drive.Kinds as drive-kinds
+use Rattle.creol.proofs.creol_drive.Reads as drive-reads
 use Rattle.creol.proofs.creol_run as run
 use Rattle.creol.proofs.creol_run.Kinds as run-kinds
 use Rattle.creol.proofs.creol_run.Reads as run-reads
@@ -38,3 +41,8 @@ only-step κs lent x y s t p q = (p .0 ∙ sym (q .0), p .1 ∙ sym (q .1))
 pub only-run : (κs : Lfts 4) (lent : ArgsD run.signature κs) (x y : ResD run.signature κs) (s t : AtExit (endedOf 4 run-kinds.ps run-kinds.r) κs)
     → run-reads.Post κs lent x s → run-reads.Post κs lent y t → (x ≡ y) × (now (s .1 .0) ≡ now (t .1 .0)) × (now (s .1 .1 .1 .0) ≡ now (t .1 .1 .1 .0))
 only-run κs lent x y s t p q = (p .0 ∙ sym (q .0), p .1 .0 ∙ sym (q .1 .0), p .1 .1 ∙ sym (q .1 .1))
+
+-- creol_drive: the same as of creol_step, for one text, one list of cells and one budget
+pub only-drive : (κs : Lfts 2) (lent : ArgsD drive.signature κs) (x y : ResD drive.signature κs) (s t : AtExit (endedOf 2 drive-kinds.ps drive-kinds.r) κs)
+    → drive-reads.Post κs lent x s → drive-reads.Post κs lent y t → (x ≡ y) × (now (s .1 .0) ≡ now (t .1 .0))
+only-drive κs lent x y s t p q = (p .0 ∙ sym (q .0), p .1 ∙ sym (q .1))

@@ -1,11 +1,15 @@
 // The entries for programs in C and Rust. Each answer is one number:
 // number + 2^8 * column + 2^16 * line + 2^32 * steps + 2^48 * quiet
+use entries::driving;
+use entries::driving::Drove;
 use entries::running;
 use model::Verdict;
 use model::judging;
 use rules::Choice;
 ghost use mathlib.Core.Path.{_≡_};
+ghost use Prim.Native.Nat.{_≤_};
 ghost use Rattle.model.specs.Judge as Judge;
+ghost use Rattle.engine.specs.Drive.{mostSteps};
 ghost use Rattle.engine.specs.Entries as Entries;
 ghost use Rattle.entries.specs.Vocabulary.Paired.{paired};
 ghost use Rattle.creol.specs.Vocabulary.Packed as Packed;
@@ -56,4 +60,29 @@ pub extern "C" fn creol_run(
     ensures { λ _. ⌜ now (answers .exit) ≡ Entries.run (now (text .entry)) (now (cells .entry)) (paired (now (choices .entry))) (now (answers .entry)) .answers ⌝ }
 {
     packed(running::run(text, cells, choices, answers))
+}
+
+// A drive's answer has its steps and whether it is quiet above the verdict.
+fn packed_drive(drove: Drove) -> u64
+    requires { ⌜ drove .steps ≤ mostSteps ⌝ }
+    ensures { λ r. ⌜ r ≡ Packed.packedDrive (drove .verdict) (drove .steps) (drove .quiet) ⌝ }
+{
+    let verdict = drove.verdict;
+    let below = verdict.number as u64
+        + verdict.line as u64 * 0x1_0000
+        + drove.steps as u64 * 0x1_0000_0000;
+    if drove.quiet {
+        below + 0x1_0000_0000_0000
+    } else {
+        below
+    }
+}
+
+// Drive: first accepted choices up to a budget, in the document's order.
+#[no_mangle]
+pub extern "C" fn creol_drive(text: &[u8], cells: &mut [i32], budget: u32) -> u64
+    ensures { λ r. ⌜ r ≡ Packed.packedOutcome (Entries.drive (now (text .entry)) (now (cells .entry)) budget) ⌝ }
+    ensures { λ _. ⌜ now (cells .exit) ≡ Entries.drive (now (text .entry)) (now (cells .entry)) budget .cells ⌝ }
+{
+    packed_drive(driving::drive(text, cells, budget))
 }

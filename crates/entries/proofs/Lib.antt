@@ -3,6 +3,7 @@ pub mod AnswerBounds
 mod Drives
 mod Freshly
 pub mod Only
+pub mod OnlyDrive
 pub mod OnlyRun
 mod Outcomes
 mod Pairs

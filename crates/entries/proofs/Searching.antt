@@ -21,7 +21,7 @@ use Rattle.cells.specs.Configuration.{isConfiguration}
 use Rattle.cells.proofs.Configured.{configured}
 use Rattle.rules.specs.declared.Choice.{Choice}
 use Rattle.rules.specs.Kinds.{Kind, exec, arrive, bind, start, deliver, kinds, kindNumber, kindOf, inUse, choose}
-use Rattle.rules.specs.Next.{Next, refused, moved, answerOf, cellsAfter}
+use Rattle.rules.specs.Next.{Next, refused, moved, cellsAfter}
 use Rattle.rules.specs.Step.{next}
 use Rattle.rules.proofs.Chosen.{kind-of-number}
 use Rattle.rules.proofs.Kept.{keeps}
@@ -200,8 +200,9 @@ module _ (m : Model) (c : Cells) (conf : isConfiguration m c ≡ true) where
 
 -- the kinds of an order from one on
 module _ (m : Model) (c : Cells) where
-  abbrev Kindly : ℕ → Option (Choice × Cells)
-  Kindly kind = firstAccepted m c (choicesFrom kind (countOf c kind) 1)
+  -- the first accepted choice of a kind's number
+  abbrev firstOf : ℕ → Option (Choice × Cells)
+  firstOf kind = firstAccepted m c (choicesFrom kind (countOf c kind) 1)
 
   -- what a kind's number has to choose from is what its kind has
   of-kind : (kind : ℕ) (k : Kind) → kindOf (pos kind) ≡ some k → choicesFrom kind (countOf c kind) 1 ≡ choicesOf k (inUse c k) 1
@@ -210,7 +211,7 @@ module _ (m : Model) (c : Cells) where
       ap (λ j. choicesFrom j (countOf c j) 1) (sym n) ∙ choices-of-kind k (countOf c (kindNumber k)) 1
       ∙ ap (λ more. choicesOf k more 1) (count-of-kind c k)
 
-  number-passed : (kind : ℕ) (rest : List ℕ) → Kindly kind ≡ none
+  number-passed : (kind : ℕ) (rest : List ℕ) → firstOf kind ≡ none
       → firstAccepted m c (choicesIn (kindsOf (kind ∷ rest)) c) ≡ firstAccepted m c (choicesIn (kindsOf rest) c)
   unfolding kindsOf choicesIn
   number-passed kind rest f = go (kindOf (pos kind)) refl
@@ -221,7 +222,7 @@ module _ (m : Model) (c : Cells) where
           rw (e, kindsOf)
           (two-none m c (choicesOf k (inUse c k) 1) (choicesIn (kindsOf rest) c) (ap (firstAccepted m c) (sym (of-kind kind k e)) ∙ f))
 
-  number-found : (kind : ℕ) (rest : List ℕ) (found : Choice × Cells) → Kindly kind ≡ some found
+  number-found : (kind : ℕ) (rest : List ℕ) (found : Choice × Cells) → firstOf kind ≡ some found
       → firstAccepted m c (choicesIn (kindsOf (kind ∷ rest)) c) ≡ some found
   unfolding kindsOf choicesIn
   number-found kind rest found f = go (kindOf (pos kind)) refl
@@ -249,8 +250,7 @@ module _ (m : Model) (c : Cells) where
 
       pub in-passed : r ≡ false → (d ≡ c) × (firstAccepted m c (choicesIn (kindsOf (drop (i + 1) order)) c) ≡ firstAccepted m c (choicesIn (kindsOf order) c))
       in-passed z =
-          let (f, still) = led-false _ c r d of-this z in
-          (
+          let (f, still) = led-false _ c r d of-this z in (
             still,
             sym (number-passed (getD order i 0) (drop (i + 1) order) f) ∙ ap (λ ns. firstAccepted m c (choicesIn (kindsOf ns) c)) (sym cut) ∙ same,
           )

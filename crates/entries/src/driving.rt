@@ -167,7 +167,11 @@ fn drive_in(text: &[u8], cells: &mut [i32], order: &[u8], budget: u32) -> Drove
     }
     let steps = steps(text, &rows, &shapes, cells, order, budget);
     let quiet = is_quiet(text, &rows, &shapes, cells);
-    Drove { verdict, steps, quiet }
+    Drove {
+        verdict,
+        steps,
+        quiet,
+    }
 }
 
 // Drive in the document's order: "exec 1.., arrive 1.., bind 1.., start 1.., deliver 1..."

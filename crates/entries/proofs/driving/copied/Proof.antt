@@ -1,5 +1,5 @@
 -- `entries::driving::copied` meets its contract. The loop's invariant: so many cells from the first on are copied. Assumes nothing.
-use Prim.Native.Nat.{suc, _+_, _-_, _≤_}
+use Prim.Native.Nat.{_-_, _≤_}
 use borrow.Author.Needs.{needs}
 use denote.Ref.{now}
 use lib.IntN.{pos}

@@ -2,6 +2,7 @@
 use borrow.Author.Needs.{needs}
 use denote.Ref.{now}
 use mathlib.Core.Path.{refl}
+use native.Mathlib.Omega.{arith}
 use Rattle.engine.specs.Entries.{atNoLine}
 use Rattle.entries.specs.Vocabulary.Searched.{kindsOf}
 use Rattle.entries.proofs.Drives.{drive-refused, drive-over, drive-done}
@@ -34,7 +35,7 @@ unfolding atNoLine
 returns-2 c =
     let k = c .before .before .before .before .before in
     let a = k .before .before .before .before .before .before .args in
-    drive-over (now (a .text)) _ _ (now (a .cells)) _ (k .on-configuration .ensures) (kindsOf (now (a .order))) (a .budget) (c .before .if1 .left) (c .if2 .taken) _ refl
+    drive-over (now (a .text)) _ _ (now (a .cells)) _ (k .on-configuration .ensures) (kindsOf (now (a .order))) (a .budget) (c .before .if1 .left) (omega arith) _ refl
 
 slice-aggregate-steps : tie.Need-slice-aggregate-steps
 slice-aggregate-steps c = search needs
@@ -67,7 +68,7 @@ returns-3 c =
     let t = c .before .before .before .before .before in
     let k = t .before .before .before .before .before .before .before .before .before in
     let a = k .before .before .before .before .before .before .args in
-    drive-done (now (a .text)) _ _ (now (a .cells)) _ (k .on-configuration .ensures) (kindsOf (now (a .order))) (a .budget) (t .before .before .before .before .before .if1 .left) (t .before .before .before .before .if2 .left) _ _ _ (t .steps .ensures .0, t .steps .ensures .1 .0) (c .is-quiet .ensures)
+    drive-done (now (a .text)) _ _ (now (a .cells)) _ (k .on-configuration .ensures) (kindsOf (now (a .order))) (a .budget) (t .before .before .before .before .before .if1 .left) (omega arith) _ _ _ (t .steps .ensures .0, t .steps .ensures .1 .0) (c .is-quiet .ensures)
 
 pub drive-in-spec : {M : Type 1} → statement M
 drive-in-spec =

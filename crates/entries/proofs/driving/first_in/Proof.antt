@@ -1,10 +1,11 @@
--- `entries::driving::first_in` meets its contract. Assumes nothing.
-use Prim.Native.Nat.{_+_, _-_, _≤_}
+-- `entries::driving::first_in` meets its contract. The loop's invariant: the cells are as they were, and a search over the kinds left finds what
+-- one over all of them finds. Assumes nothing.
+use Prim.Native.Nat.{_-_, _≤_}
 use borrow.Author.Needs.{needs}
 use denote.Ref.{now}
 use lib.ListN.{length, getD, drop}
 use mathlib.Core.Bool.{true}
-use mathlib.Core.Path.{_≡_, refl, sym, ap, subst, _∙_}
+use mathlib.Core.Path.{_≡_, refl, ap, subst, _∙_}
 use native.Mathlib.Omega.{arith}
 use Rattle.model.specs.Vocabulary.Known.{modelOf}
 use Rattle.cells.specs.Configuration.{isConfiguration}

@@ -1,10 +1,11 @@
--- `entries::driving::first_of` meets its contract. Assumes nothing.
+-- `entries::driving::first_of` meets its contract. The loop's invariant: the cells are as they were, and a search over the choices left finds
+-- what one over all of them finds. Assumes nothing.
 use Prim.Native.Nat.{_+_, _-_, _≤_}
 use borrow.Author.Needs.{needs}
 use denote.Ref.{now}
 use lib.IntN.{pos}
 use lib.ListN.{length}
-use mathlib.Core.Path.{_≡_, refl, sym, ap, _∙_}
+use mathlib.Core.Path.{_≡_, refl, ap, _∙_}
 use mir.Syntax.{w32}
 use mir.ValLaws.{toZ-ofZ}
 use native.Mathlib.Omega.{arith}

@@ -1,6 +1,4 @@
 -- `entries::driving::in_use` meets its contract. Assumes nothing.
-use borrow.Author.Needs.{needs}
-use borrow.Author.Tests.{eq-eqb, ne-eqb}
 use mathlib.Core.Path.{sym, _∙_}
 use native.Mathlib.Omega.{arith}
 use Rattle.entries.proofs.Searching.{count-exec, count-other}

@@ -1,11 +1,12 @@
--- `entries::driving::steps` meets its contract. Assumes nothing.
+-- `entries::driving::steps` meets its contract. The loop's invariant: the cells are a configuration, and the drive from here on is the whole
+-- drive. Assumes nothing.
 use Prim.Native.Nat.{_+_, _-_, _≤_}
 use borrow.Author.Needs.{needs}
 use borrow.Author.Tests.{not-true, not-false}
 use denote.Ref.{now}
 use lib.ListN.{length}
 use mathlib.Core.Bool.{true}
-use mathlib.Core.Path.{_≡_, refl, sym, ap, subst, _∙_}
+use mathlib.Core.Path.{_≡_, refl, ap, _∙_}
 use native.Mathlib.Omega.{arith}
 use Rattle.model.specs.Vocabulary.Known.{modelOf}
 use Rattle.cells.specs.Configuration.{isConfiguration}

@@ -1,0 +1,62 @@
+-- `creol::packed_drive` meets its contract. Assumes nothing.
+use borrow.Author.Needs.{needs}
+use Prim.Native.Nat.{ℕ, _+_, _*_, _^_}
+use mathlib.Core.Bool.{false}
+use mathlib.Core.Path.{_≡_, sym, ap, _∙_}
+use native.Mathlib.Omega.{arith}
+use Rattle.model.specs.declared.Verdict.{Verdict}
+use Rattle.creol.specs.Vocabulary.Packed.{packed, quietly, packedDrive}
+use Rattle.creol.proofs.packed_drive.Statement.{statement}
+use Rattle.creol.proofs.packed_drive.Tie as tie
+
+-- a drive that is not quiet has nothing above its steps
+not-quiet : (v : Verdict) (n : ℕ) → packed v + n * 2 ^ 32 ≡ packedDrive v n false
+unfolding quietly packedDrive
+not-quiet v n = omega arith
+
+cast-below : tie.Need-cast-below
+cast-below c = search needs
+
+cast-below-2 : tie.Need-cast-below-2
+cast-below-2 c = search needs
+
+mul-below : tie.Need-mul-below
+mul-below c = search needs
+
+add-below : tie.Need-add-below
+add-below c = search needs
+
+cast-below-3 : tie.Need-cast-below-3
+cast-below-3 c = search needs
+
+mul-below-2 : tie.Need-mul-below-2
+mul-below-2 c = search needs
+
+add-below-2 : tie.Need-add-below-2
+add-below-2 c = search needs
+
+add-result : tie.Need-add-result
+add-result c = search needs
+
+returns : tie.Need-returns
+unfolding packed quietly packedDrive
+returns c = sym (ap (packedDrive _ _) (c .if1 .taken))
+
+returns-2 : tie.Need-returns-2
+unfolding packed quietly packedDrive
+returns-2 c = not-quiet _ _ ∙ sym (ap (packedDrive _ _) (c .if1 .left))
+
+pub packed-drive-spec : {M : Type 1} → statement M
+packed-drive-spec =
+    tie.close
+    (tie.spec
+    cast-below
+    cast-below-2
+    mul-below
+    add-below
+    cast-below-3
+    mul-below-2
+    add-below-2
+    add-result
+    returns
+    returns-2)
