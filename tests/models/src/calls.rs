@@ -5,12 +5,17 @@
 //! with x in cell c. A run has `choices(n)`, which are n times exec 1, and
 //! `answers(n)`; a step has a kind and a number, a drive a budget.
 
+use boundary::creol::{Entries, EXEC};
 use independent::configuration::CELLS;
-use independent::{drive, run, start, step, Choice, Verdict};
+use independent::{drive, run, Choice, Verdict};
 
-/// The number that the independent engine gives for a call, and that a refused call
-/// has written nothing.
-pub fn number(call: &str, text_of: impl Fn(&str) -> Option<Vec<u8>>) -> Result<u8, String> {
+/// The number that an engine gives for a call, and that a refused call has written
+/// nothing. A run and a drive are the independent engine's.
+pub fn number(
+    call: &str,
+    text_of: impl Fn(&str) -> Option<Vec<u8>>,
+    entries: Entries,
+) -> Result<u8, String> {
     let fault = || format!("no call of an entry: {call}");
     let (entry, arguments) = call.split_once('(').ok_or_else(fault)?;
     let arguments = arguments.strip_suffix(')').ok_or_else(fault)?;
@@ -24,15 +29,19 @@ pub fn number(call: &str, text_of: impl Fn(&str) -> Option<Vec<u8>>) -> Result<u
     let before = cells.clone();
     let mut written = false;
     let verdict = match (entry, rest) {
-        ("start", []) => start(&text, &mut cells),
+        ("start", []) => (entries.start)(&text, &mut cells),
         ("step", [kind, number]) => {
             let kind = kind.parse().map_err(|_| fault())?;
             let number = number.parse().map_err(|_| fault())?;
-            step(&text, &mut cells, kind, number)
+            (entries.step)(&text, &mut cells, kind, number)
         }
         ("run", [choices, answers]) => {
             let choices = count(choices, "choices").ok_or_else(fault)?;
-            let choices = vec![Choice { kind: 1, number: 1 }; choices];
+            let exec = Choice {
+                kind: EXEC,
+                number: 1,
+            };
+            let choices = vec![exec; choices];
             let answers = count(answers, "answers").ok_or_else(fault)?;
             let mut answers = vec![-1; answers];
             let verdict = run(&text, &mut cells, &choices, &mut answers);
@@ -89,7 +98,7 @@ fn cells_of(term: &str, text: &[u8]) -> Option<Vec<i32>> {
         return Some(vec![0; zeros]);
     }
     let mut cells = vec![0; CELLS];
-    if !start(text, &mut cells).is_accepted() {
+    if !independent::start(text, &mut cells).is_accepted() {
         return None;
     }
     if term != "started" {
@@ -106,7 +115,7 @@ mod tests {
 
     fn ask(call: &str) -> Option<u8> {
         let text_of = |name: &str| (name == "session").then(|| MODEL.into());
-        number(call, text_of).ok()
+        number(call, text_of, Entries::INDEPENDENT).ok()
     }
 
     #[test]

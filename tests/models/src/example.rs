@@ -4,9 +4,11 @@ use std::fs::{self, File};
 use std::path::Path;
 use std::process::{Command, Stdio};
 
+use boundary::creol::Entries;
+use independent::configuration::CELLS;
 use independent::{Choice, Verdict};
 
-use crate::Faults;
+use crate::{engines, Faults};
 
 #[derive(Clone, Debug, PartialEq, Eq)]
 pub struct Example {
@@ -57,13 +59,37 @@ impl Example {
         }
     }
 
-    /// The faults of the verdict that a judge gives of the model.
-    pub fn by_judge(&self, judge: fn(&[u8]) -> Verdict) -> Faults {
-        let verdict = judge(&self.model);
-        if verdict == self.verdict() {
-            return Faults::new();
+    /// The faults of the example by the entries of each engine, step by step.
+    pub fn by_entries(&self) -> Faults {
+        let by = |(name, entries)| self.compare(name, &self.stepped(entries));
+        engines().into_iter().flat_map(by).collect()
+    }
+
+    /// What the runner would write if it used these entries, a step for each choice.
+    fn stepped(&self, entries: Entries) -> Vec<u8> {
+        let judged = (entries.judge)(&self.model);
+        let mut cells = vec![0; CELLS];
+        let started = (entries.start)(&self.model, &mut cells);
+        if judged != started {
+            return format!("judged {judged:?}, started {started:?}\n").into_bytes();
         }
-        vec![format!("{}: {verdict:?} by judge", self.name)]
+        if !judged.is_accepted() {
+            let Verdict { number, line } = judged;
+            return format!("refused={number}\nline={line}\n").into_bytes();
+        }
+        let lines = self.choice_lines();
+        let answers = lines.iter().map(|line| {
+            let Choice { kind, number } = choice(line);
+            (entries.step)(&self.model, &mut cells, kind, number).number
+        });
+        let answers: Vec<u8> = answers.collect();
+        let accepted = answers.iter().filter(|answer| **answer == 0).count();
+        let refused = answers.len() - accepted;
+        let (objects, calls) = (cells[0], cells[1]);
+        let mut written: String = answers.iter().map(|n| format!("answer={n}\n")).collect();
+        written += &format!("accepted={accepted}\nrefused={refused}\n");
+        written += &format!("objects={objects}\ncalls={calls}\n");
+        written.into_bytes()
     }
 
     /// The verdict on the model that is in the lines written.
@@ -90,7 +116,8 @@ impl Example {
     /// The lines of the choices.
     pub fn choice_lines(&self) -> Vec<String> {
         let choices = String::from_utf8_lossy(&self.choices);
-        choices.lines().map(str::to_string).collect()
+        let lines = choices.split_terminator('\n');
+        lines.map(str::to_string).collect()
     }
 
     /// The answers in the lines written.

@@ -25,13 +25,14 @@
 
 use std::collections::BTreeSet;
 
+use boundary::creol::EXEC;
 use independent::configuration::CELLS;
-use independent::{judge, start, step, Verdict};
+use independent::Verdict;
 
 use crate::claims::claims;
 use crate::example::Example;
 use crate::markdown::{parts, quoted, Part, Placed, Table};
-use crate::{calls, walk, Faults};
+use crate::{calls, engines, walk, Faults};
 
 #[derive(Clone, Debug, Default)]
 pub struct Guide {
@@ -213,51 +214,55 @@ impl Guide {
 
     fn called(&self, call: &str, said: &str) -> Result<i32, String> {
         let text_of = |name: &str| self.example(name).map(|example| example.model.clone());
-        let number = calls::number(call, text_of)?;
-        if said != number.to_string() {
-            return Err(format!("{call} gives {number}"));
+        for (by, entries) in engines() {
+            let number = calls::number(call, text_of, entries)?;
+            if said != number.to_string() {
+                return Err(format!("{call} gives {number} by {by}"));
+            }
         }
-        Ok(i32::from(number))
+        said.parse().map_err(|_| format!("no number: {said}"))
     }
 
     fn judged(&self, place: &str, term: &str, said: &str) -> Result<i32, String> {
         let (line, model) = self.placed(place, term)?;
-        let verdict = judge(&model);
-        let is_said = match said.strip_prefix("refused with ") {
-            Some(number) => number == verdict.number.to_string() && verdict.line as usize == line,
-            None => said == "accepted" && verdict == Verdict::ACCEPTED,
+        let verdict = match said.strip_prefix("refused with ").map(str::parse) {
+            Some(Ok(number)) => Verdict { number, line },
+            None if said == "accepted" => Verdict::ACCEPTED,
+            _ => return Err(format!("no verdict: {said}")),
         };
-        if !is_said {
-            return Err(format!("{term}: {verdict:?}"));
+        for (by, entries) in engines() {
+            let judged = (entries.judge)(&model);
+            if judged != verdict {
+                return Err(format!("{term}: {judged:?} by {by}"));
+            }
         }
         Ok(i32::from(verdict.number))
     }
 
     fn stepped(&self, place: &str, term: &str, said: &str) -> Result<i32, String> {
         let (_, model) = self.placed(place, term)?;
-        let mut cells = vec![0; CELLS];
-        let verdict = start(&model, &mut cells);
-        if !verdict.is_accepted() {
-            return Err(format!("{term}: {verdict:?}"));
-        }
-        let number = step(&model, &mut cells, 1, 1).number;
-        let is_said = match said.strip_prefix("answer ") {
-            Some(answer) => answer == number.to_string(),
-            None => {
-                let claims = claims(said)?;
-                number == 0
-                    && !claims.is_empty()
-                    && claims.iter().all(|claim| claim.holds(&model, &cells))
-            }
+        let (answer, claims) = match said.strip_prefix("answer ").map(str::parse) {
+            Some(Ok(answer)) => (answer, Vec::new()),
+            None => (0, claims(said)?),
+            _ => return Err(format!("no answer: {said}")),
         };
-        if !is_said {
-            return Err(format!("{term}: answer {number}, and not {said}"));
+        if answer == 0 && claims.is_empty() {
+            return Err(format!("nothing of the cells: {said}"));
         }
-        Ok(i32::from(number))
+        for (by, entries) in engines() {
+            let mut cells = vec![0; CELLS];
+            let started = (entries.start)(&model, &mut cells);
+            let stepped = (entries.step)(&model, &mut cells, EXEC, 1).number;
+            let holds = claims.iter().all(|claim| claim.holds(&model, &cells));
+            if !started.is_accepted() || stepped != answer || !holds {
+                return Err(format!("{term}: {started:?}, answer {stepped} by {by}"));
+            }
+        }
+        Ok(i32::from(answer))
     }
 
     /// A model with another line: ``line 12 of `NAME` ``.
-    fn placed(&self, place: &str, term: &str) -> Result<(usize, Vec<u8>), String> {
+    fn placed(&self, place: &str, term: &str) -> Result<(u32, Vec<u8>), String> {
         let fault = || format!("no line of a model: {place}");
         let place = place.strip_prefix("line ").ok_or_else(fault)?;
         let (line, name) = place.split_once(" of ").ok_or_else(fault)?;

@@ -17,6 +17,16 @@ pub mod walk;
 
 use std::path::{Path, PathBuf};
 
+use boundary::creol::Entries;
+
+/// The engines that there are, by name: the independent one, and the library where it
+/// is linked.
+pub fn engines() -> Vec<(&'static str, Entries)> {
+    let linked = Entries::linked().map(|entries| ("the library", entries));
+    let independent = ("the independent engine", Entries::INDEPENDENT);
+    [independent].into_iter().chain(linked).collect()
+}
+
 /// What is wrong, each in a sentence; none where all is well.
 pub type Faults = Vec<String>;
 

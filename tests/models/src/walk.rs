@@ -1,12 +1,12 @@
 //! A table that tells an example choice by choice.
 
+use boundary::creol::Entries;
 use independent::configuration::CELLS;
-use independent::{start, step};
 
 use crate::claims::claims;
 use crate::example::{choice, Example};
 use crate::markdown::{quoted, Table};
-use crate::Faults;
+use crate::{engines, Faults};
 
 /// The header of such a table. A row has the numbers of its choices, counted from 1,
 /// the choices in backticks, their answers, and words.
@@ -25,8 +25,10 @@ struct Row<'t> {
 /// of the cells that holds behind its last choice.
 pub fn check(table: &Table, example: &Example) -> Faults {
     let rows: Result<Vec<Row>, String> = table.rows.iter().map(|row| read(row)).collect();
-    let faults = rows.map(|rows| compare(&rows, example));
-    let mut faults = faults.unwrap_or_else(|fault| vec![fault]);
+    let mut faults = match rows {
+        Ok(rows) => compare(&rows, example),
+        Err(fault) => vec![fault],
+    };
     for fault in &mut faults {
         *fault = format!("{}: {fault}", example.name);
     }
@@ -51,34 +53,20 @@ fn read(row: &[String]) -> Result<Row<'_>, String> {
 
 fn compare(rows: &[Row], example: &Example) -> Faults {
     let mut faults = Faults::new();
-    let mut cells = vec![0; CELLS];
-    let verdict = start(&example.model, &mut cells);
-    if !verdict.is_accepted() {
-        return vec![format!("a walk through a refused model, {verdict:?}")];
-    }
     let mut next = 1;
-    for row in rows {
-        let count = (row.last + 1).saturating_sub(row.first);
-        if row.first != next || count != row.choices.len() || count != row.answers.len() {
-            faults.push(format!("choices {}..{} are not there", row.first, row.last));
+    for Row {
+        first,
+        last,
+        choices,
+        answers,
+        ..
+    } in rows
+    {
+        let count = (last + 1).saturating_sub(*first);
+        if *first != next || count != choices.len() || count != answers.len() {
+            faults.push(format!("choices {first}..{last} are not there"));
         }
-        next = row.last + 1;
-        for line in &row.choices {
-            let choice = choice(line);
-            step(&example.model, &mut cells, choice.kind, choice.number);
-        }
-        match claims(row.words) {
-            Ok(claims) if claims.is_empty() => {
-                faults.push(format!("behind choice {}: nothing of the cells", row.last));
-            }
-            Ok(claims) => faults.extend(
-                claims
-                    .iter()
-                    .filter(|claim| !claim.holds(&example.model, &cells))
-                    .map(|claim| format!("behind choice {}: not {claim:?}", row.last)),
-            ),
-            Err(fault) => faults.push(format!("behind choice {}: {fault}", row.last)),
-        }
+        next = last + 1;
     }
     let choices: Vec<&str> = rows.iter().flat_map(|row| row.choices.clone()).collect();
     if choices != example.choice_lines() {
@@ -87,6 +75,36 @@ fn compare(rows: &[Row], example: &Example) -> Faults {
     let answers: Vec<i32> = rows.iter().flat_map(|row| row.answers.clone()).collect();
     if answers != example.answers() {
         faults.push(format!("the walk has other answers: {answers:?}"));
+    }
+    for (by, entries) in engines() {
+        let unsaid = said(rows, &example.model, entries);
+        faults.extend(unsaid.iter().map(|fault| format!("{fault} by {by}")));
+    }
+    faults
+}
+
+/// The faults of what the rows say of the cells, by the entries of an engine.
+fn said(rows: &[Row], model: &[u8], entries: Entries) -> Faults {
+    let mut cells = vec![0; CELLS];
+    let verdict = (entries.start)(model, &mut cells);
+    if !verdict.is_accepted() {
+        return vec![format!("a walk through a refused model, {verdict:?}")];
+    }
+    let mut faults = Faults::new();
+    for row in rows {
+        for line in &row.choices {
+            let choice = choice(line);
+            (entries.step)(model, &mut cells, choice.kind, choice.number);
+        }
+        let behind = |fault| format!("behind choice {}: {fault}", row.last);
+        match claims(row.words) {
+            Ok(claims) if claims.is_empty() => faults.push(behind("nothing of the cells".into())),
+            Ok(claims) => {
+                let wrong = claims.iter().filter(|claim| !claim.holds(model, &cells));
+                faults.extend(wrong.map(|claim| behind(format!("not {claim:?}"))));
+            }
+            Err(fault) => faults.push(behind(fault)),
+        }
     }
     faults
 }

@@ -56,15 +56,13 @@ fn by_the_runner() {
     by_program(&root().join("target/bin/runner"));
 }
 
-/// The library judges the texts where it is linked; else the independent engine does.
 #[test]
-fn by_judge() {
-    let judge = boundary::creol::judge_if_linked().unwrap_or(independent::judge);
+fn by_the_entries_step_by_step() {
     let guide = guide();
     let faults = guide
         .examples
         .iter()
-        .flat_map(|example| example.by_judge(judge));
+        .flat_map(|example| example.by_entries());
     demand_none(faults.collect());
 }
 

@@ -3,6 +3,7 @@
 use std::fs;
 use std::path::{Path, PathBuf};
 
+use models::example::Example;
 use models::folder::{names, Folder, FILES};
 use models::{read, root, Faults};
 
@@ -25,6 +26,10 @@ fn demand_none(faults: Faults) {
     assert!(faults.is_empty(), "{}", faults.join("\n"));
 }
 
+fn stand_in() -> &'static Path {
+    Path::new(env!("CARGO_BIN_EXE_independent-runner"))
+}
+
 fn by_program(program: &Path) {
     let faults = folders()
         .iter()
@@ -44,7 +49,7 @@ fn by_the_independent_engine() {
 
 #[test]
 fn by_a_program_that_stands_in_for_the_runner() {
-    by_program(Path::new(env!("CARGO_BIN_EXE_independent-runner")));
+    by_program(stand_in());
 }
 
 #[cfg(have_runner)]
@@ -60,14 +65,12 @@ fn by_the_readmes() {
     demand_none(faults.collect());
 }
 
-/// The library judges the texts where it is linked; else the independent engine does.
 #[test]
-fn by_judge() {
-    let judge = boundary::creol::judge_if_linked().unwrap_or(independent::judge);
+fn by_the_entries_step_by_step() {
     let folders = folders();
     let faults = folders
         .iter()
-        .flat_map(|folder| folder.example.by_judge(judge));
+        .flat_map(|folder| folder.example.by_entries());
     demand_none(faults.collect());
 }
 
@@ -103,22 +106,15 @@ fn copy_of(folder: &Folder, name: &str) -> PathBuf {
     copy
 }
 
-/// What is wrong with a folder, by every check of this file.
+/// What is wrong with a folder.
 fn faults_of(path: &Path) -> Faults {
     let folder = match Folder::read(path) {
         Ok(folder) => folder,
         Err(fault) => return vec![fault],
     };
-    let program = Path::new(env!("CARGO_BIN_EXE_independent-runner"));
-    let mut by_engine = folder.example.by_independent();
-    let by_program = folder.example.by_program(program, &folder.path);
-    assert_eq!(
-        by_engine.is_empty(),
-        by_program.is_empty(),
-        "{by_program:?}"
-    );
-    by_engine.extend(folder.readme_faults());
-    by_engine
+    let mut faults = folder.example.by_independent();
+    faults.extend(folder.readme_faults());
+    faults
 }
 
 #[test]
@@ -149,19 +145,22 @@ fn damages(text: &[u8]) -> Vec<Vec<u8>> {
     damages
 }
 
+/// By each way of running it.
 #[test]
 fn a_damaged_expected_fails() {
     for folder in folders() {
-        let copy = copy_of(&folder, "expected");
-        for damaged in damages(&folder.example.written) {
-            fs::write(copy.join("expected"), &damaged).expect("the damaged file");
-            let shown = String::from_utf8_lossy(&damaged);
-            assert_ne!(
-                faults_of(&copy),
-                Faults::new(),
-                "{:?}\n{shown}",
-                folder.path
-            );
+        for (at, written) in damages(&folder.example.written).into_iter().enumerate() {
+            let example = Example {
+                written,
+                ..folder.example.clone()
+            };
+            assert_ne!(example.by_independent(), Faults::new(), "{example:?}");
+            assert_ne!(example.by_entries(), Faults::new(), "{example:?}");
+            // A program takes longer: one damage is enough.
+            if at == 0 {
+                let faults = example.by_program(stand_in(), &folder.path);
+                assert_ne!(faults, Faults::new(), "{example:?}");
+            }
         }
     }
 }
