@@ -1,7 +1,7 @@
 -- An entry's verdict is small, whatever the text, the cells and the choice: its number is at most 33, and its line at most 32,769. Assumes nothing.
 use Prim.Native.Nat.{ℕ, zero, suc, _+_, _≤_}
 use mathlib.Core.Bool.{Bool, true, false}
-use mathlib.Core.List.{List, [], _∷_}
+use mathlib.Core.List.{List, []}
 use mathlib.Core.Option.{Option, none, some}
 use mathlib.Core.Path.{_≡_, refl, ap, subst, _∙_}
 use native.Mathlib.Omega.{arith}
@@ -10,15 +10,8 @@ use lib.Dec.{leb, eqb}
 use lib.IntN.{ℤ}
 use lib.ListN.{length}
 use Rattle.whole.specs.Refusals.{accepted, cellsNotAll, noConfiguration, answersDiffer, budgetTooLarge}
-use Rattle.whole.specs.Whole.{isTrue}
-use Rattle.whole.specs.declared.Worked.{Worked}
-use Rattle.whole.specs.declared.Worked.the-variants.{Value, OutOfRange}
-use Rattle.layout.specs.Layout.{Cells, Write, allCells, ofObject, runningLabel}
-use Rattle.layout.specs.Stages.{upTo, objectOf, labelOf, replyFor}
+use Rattle.layout.specs.Layout.{Cells, allCells}
 use Rattle.terms.specs.Bytes.{Text}
-use Rattle.terms.specs.Values.{held}
-use Rattle.terms.specs.declared.Variable.{Variable}
-use Rattle.code.specs.Statements.{Statement, skip, set, new, call, get, await, if, else, fi, while, od, return}
 use Rattle.model.specs.declared.Verdict.{Verdict}
 use Rattle.model.specs.Judge.{Judged, refusal, model, judged, verdictOf, judge}
 use Rattle.model.specs.Model.{Model}
@@ -26,110 +19,13 @@ use Rattle.model.proofs.CountsOfNew.{verdict-refusal}
 use Rattle.model.proofs.VerdictBounds.{judge-small}
 use Rattle.model.proofs.Verdicts.{judge-verdict}
 use Rattle.cells.specs.Configuration.{isConfiguration}
-use Rattle.cells.specs.Standing.{Standing, bodyOf, standingOf}
 use Rattle.rules.specs.declared.Choice.{Choice}
-use Rattle.rules.specs.Exec as Exec
-use Rattle.rules.specs.Kinds.{Kind, exec, arrive, bind, start, deliver, kindOf, inUse}
-use Rattle.rules.specs.Messages as Messages
-use Rattle.rules.specs.Next.{Next, refused, moved, must, working, workingAll, answerOf}
-use Rattle.rules.specs.Step.{ruled, next}
+use Rattle.rules.specs.Kinds.{Kind}
 use Rattle.engine.specs.Drive.{mostSteps, execFirst, Driven, driven, firstAccepted, choicesIn}
 use Rattle.engine.specs.Run.{runCells, runAnswers}
 use Rattle.engine.specs.Entries as Entries
 use Rattle.engine.specs.Entries.{Outcome, outcome, atNoLine, onModel, onConfiguration}
-
--- an answer to a choice
-Small : Next → Type 0
-Small n = answerOf n ≤ 33
-
--- a rule that moves, and one that refuses
-small-moved : (ws : List Write) → Small (moved ws)
-unfolding Small answerOf
-small-moved ws = omega arith
-
-small-refused : (n : ℕ) → n ≤ 33 → Small (refused n)
-unfolding Small answerOf
-small-refused n h = h
-
--- behind a test, and of values that are worked out
-small-must : (b : Bool) (n : ℕ) (k : Next) → n ≤ 33 → Small k → Small (must b n k)
-unfolding must
-small-must true n k h s = s
-small-must false n k h s = small-refused n h
-
-small-working : (w : Worked) (k : ℤ → Next) → ((z : ℤ) → Small (k z)) → Small (working w k)
-unfolding working
-small-working (Value z) k h = h z
-small-working OutOfRange k h = small-refused _ (omega arith)
-
-small-all : (ws : List Worked) (k : List ℤ → Next) → ((zs : List ℤ) → Small (k zs)) → Small (workingAll ws k)
-unfolding workingAll
-small-all [] k h = h []
-small-all (w ∷ ws) k h = small-working w _ (λ z. small-all ws _ (λ zs. h (z ∷ zs)))
-
--- a choice between two writings
-small-either : (b : Bool) (us vs : List Write) → Small (elim b [ true ↦ moved us | false ↦ moved vs ])
-small-either true us vs = small-moved us
-small-either false us vs = small-moved vs
-
--- with what was found, or a refusal
-small-found : {A : Type 0} (f : Option A) (n : ℕ) (k : A → Next) → n ≤ 33 → ((a : A) → Small (k a)) → Small (elim f [ none ↦ refused n | some a ↦ k a ])
-small-found none n k h s = small-refused n h
-small-found (some a) n k h s = s a
-
--- a line performed
-module _ (m : Model) (c : Cells) (o l : ℕ) (at : Standing) where
-  small-created : (x : Variable) (k : ℕ) (zs : List ℤ) → Small (Exec.created m c o l at x k zs)
-  unfolding Exec.created
-  small-created x k zs = small-must _ _ _ (omega arith) (small-must _ _ _ (omega arith) (small-moved _))
-
-  small-issued : (x : Variable) (z : ℤ) (j : ℕ) (zs : List ℤ) → Small (Exec.issued m c o l at x z j zs)
-  unfolding Exec.issued
-  small-issued x z j zs = small-found (objectOf c z) _ _ (omega arith) (λ to. small-must _ _ _ (omega arith) (small-moved _))
-
-  small-took : (x y : Variable) → Small (Exec.tookReply m c o l at x y)
-  unfolding Exec.tookReply
-  small-took x y = small-found (replyFor c o (held (Exec.here c o l) x)) _ _ (omega arith) (λ from. small-moved _)
-
-  small-performed : (s : Statement Worked Worked) → Small (Exec.performed m c o l at s)
-  unfolding Exec.performed Exec.assigned Exec.awaited Exec.branched Exec.returned
-  small-performed skip = small-moved _
-  small-performed (set x w) = small-working w _ (λ z. small-moved _)
-  small-performed (new x k ws) = small-all ws _ (small-created x k)
-  small-performed (call x w j ws) = small-working w _ (λ z. small-all ws _ (small-issued x z j))
-  small-performed (get x y) = small-took x y
-  small-performed (await g) = small-working g _ (λ z. small-either (isTrue z) _ _)
-  small-performed (if w) = small-working w _ (λ z. small-either (isTrue z) _ _)
-  small-performed else = small-moved _
-  small-performed fi = small-moved _
-  small-performed (while w) = small-working w _ (λ z. small-either (isTrue z) _ _)
-  small-performed od = small-moved _
-  small-performed (return w) = small-working w _ (λ z. small-moved _)
-
--- a rule
-small-ruled : (m : Model) (c : Cells) (k : Kind) (n : ℕ) → Small (ruled m c k n)
-unfolding ruled Exec.exec Messages.arrive Messages.bind Messages.start Messages.startIn Messages.deliver
-small-ruled m c exec n =
-    small-found (labelOf c (ofObject c n runningLabel)) _ _ (omega arith)
-    (λ l. small-found (standingOf m c l) _ _ (omega arith) (λ at. small-performed m c n l at _))
-small-ruled m c arrive n = small-must _ _ _ (omega arith) (small-moved _)
-small-ruled m c bind n = small-must _ _ _ (omega arith) (small-found (bodyOf m c n) _ _ (omega arith) (λ b. small-moved _))
-small-ruled m c start n =
-    small-must _ _ _ (omega arith)
-    (small-must _ _ _ (omega arith) (small-working _ _ (λ z. small-must _ _ _ (omega arith) (small-moved _))))
-small-ruled m c deliver n = small-must _ _ _ (omega arith) (small-moved _)
-
--- a choice
-small-next : (m : Model) (c : Cells) (choice : Choice) → Small (next m c choice)
-unfolding next
-small-next m c choice =
-    small-found (kindOf (choice .kind)) _ _ (omega arith)
-    (λ k. small-found (upTo (inUse c k) (choice .number)) _ _ (omega arith) (small-ruled m c k))
-
--- so its answer fits
-pub answer-small : (m : Model) (c : Cells) (choice : Choice) → answerOf (next m c choice) ≤ 33
-unfolding Small
-answer-small m c choice = small-next m c choice
+use Rattle.entries.proofs.Refusing.{answer-small}
 
 -- the verdict of an outcome
 abbrev pub SmallVerdict : Verdict → Type 0
@@ -183,8 +79,8 @@ module _ (s : Text) (c : Cells) where
   start-small = on-model s c [] Gave (gave c []) _ (λ m. gave _ [] _ (no-line-small accepted (omega arith)))
 
   pub step-small : (choice : Choice) → SmallVerdict (Entries.step s c choice .verdict)
-  unfolding Entries.step Small
-  step-small choice = on-configuration s c [] Gave (gave c []) _ (λ m. gave _ [] _ (no-line-small _ (small-next m c choice)))
+  unfolding Entries.step
+  step-small choice = on-configuration s c [] Gave (gave c []) _ (λ m. gave _ [] _ (no-line-small _ (answer-small m c choice)))
 
   pub run-small : (choices : List Choice) (answers : List ℤ) → SmallVerdict (Entries.run s c choices answers .verdict)
   unfolding Entries.run

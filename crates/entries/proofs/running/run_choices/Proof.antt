@@ -10,7 +10,7 @@ use mir.ValLaws.{toZ-pos}
 use native.Mathlib.Omega.{arith}
 use Rattle.model.specs.Vocabulary.Known.{modelOf}
 use Rattle.lookup.proofs.Reading.{accepted}
-use Rattle.entries.proofs.AnswerBounds.{answer-small}
+use Rattle.entries.proofs.Refusing.{answer-small}
 use Rattle.entries.proofs.RunOnward.{Ran, ran-none, ran-more, ran-all}
 use Rattle.entries.proofs.running.run_choices.Statement.{statement}
 use Rattle.entries.proofs.running.run_choices.Tie as tie
