@@ -1,13 +1,13 @@
 /* The entries of the Creol engine for programs in C: link libcreol.a.
  *
- * Every function takes any bytes of any number, any cells of any number and any choice, and gives one answer:
+ * Every function takes any bytes of any number, any cells of any number and any choices, and gives one answer:
  *
  *     number + 2^8 * column + 2^16 * line + 2^32 * steps + 2^48 * quiet
  *
  * The number is 0 for an acceptance, and else that of the refusal; the line is counted from 1,
- * and 0 where the number names none. Judge, start and step give no column, no steps and no quiet.
+ * and 0 where the number names none. Judge, start, step and run give no column, no steps and no quiet.
  *
- * No function keeps a pointer. A text or cells of length 0 may have a null pointer.
+ * No function keeps a pointer. What has length 0 may have a null pointer.
  */
 #ifndef CREOL_H
 #define CREOL_H
@@ -35,6 +35,15 @@ uint64_t creol_start(const uint8_t *text, size_t text_len, int32_t *cells, size_
 /* One step, by a choice: a kind and a number. It reads the text and the cells. An acceptance writes the next
  * configuration in the cells; a refusal writes none. The cells must not overlap the text. */
 uint64_t creol_step(const uint8_t *text, size_t text_len, int32_t *cells, size_t cells_len, int32_t kind, int32_t number);
+
+/* A run: one step after the other, by a list of choices. A choice is two numbers, its kind and its number, and the
+ * choices stand one after the other; their length counts numbers, and an odd one at the end is no choice. The answers
+ * have one place for each choice: their length is half of that of the choices, rounded down, and any other is refused
+ * with 13. It reads the text, the cells and the choices. An acceptance writes the last configuration in the cells and
+ * every answer: 0 where the choice was accepted, and else the number of its refusal, behind which the run goes on. A
+ * refusal writes no cell and no answer. Cells, answers, choices and text must not overlap. */
+uint64_t creol_run(const uint8_t *text, size_t text_len, int32_t *cells, size_t cells_len, const int32_t *choices,
+                   size_t choices_len, int32_t *answers, size_t answers_len);
 
 #ifdef __cplusplus
 }
