@@ -1,6 +1,6 @@
 //! The engine's entries.
 
-pub use independent::Verdict;
+pub use independent::{Choice, Verdict};
 
 /// The kinds of a choice. An exec is of an object, the others are of a label.
 pub const EXEC: i32 = 1;
@@ -22,6 +22,17 @@ extern "C" {
         cells_len: usize,
         kind: i32,
         number: i32,
+    ) -> u64;
+
+    fn creol_run(
+        text: *const u8,
+        text_len: usize,
+        cells: *mut i32,
+        cells_len: usize,
+        choices: *const i32,
+        choices_len: usize,
+        answers: *mut i32,
+        answers_len: usize,
     ) -> u64;
 }
 
@@ -61,12 +72,52 @@ pub fn step(text: &[u8], cells: &mut [i32], kind: i32, number: i32) -> Verdict {
     })
 }
 
+/// The library's run of these choices.
+#[cfg(have_creol)]
+pub fn run(text: &[u8], cells: &mut [i32], choices: &[Choice], answers: &mut [i32]) -> Verdict {
+    // SAFETY: a choice is two numbers one after the other, as `repr(C)` demands, so
+    // the choices are twice as many numbers in the same memory. These are read alone,
+    // and for no longer than the choices are borrowed.
+    let numbers = unsafe { std::slice::from_raw_parts(choices.as_ptr().cast(), 2 * choices.len()) };
+    run_numbers(text, cells, numbers, answers)
+}
+
+/// The library's run of choices that are numbers: kind and number, one after the
+/// other. An odd one at the end is no choice.
+#[cfg(have_creol)]
+pub fn run_numbers(
+    text: &[u8],
+    cells: &mut [i32],
+    numbers: &[i32],
+    answers: &mut [i32],
+) -> Verdict {
+    // SAFETY: as for `start`, with four slices: the two that it writes are borrowed
+    // for it alone, so neither is a part of another. It demands nothing of the choices,
+    // nor of how many there are, nor of how many answers.
+    decoded(unsafe {
+        creol_run(
+            text.as_ptr(),
+            text.len(),
+            cells.as_mut_ptr(),
+            cells.len(),
+            numbers.as_ptr(),
+            numbers.len(),
+            answers.as_mut_ptr(),
+            answers.len(),
+        )
+    })
+}
+
+/// A run: text, cells, choices and answers.
+pub type Running = fn(&[u8], &mut [i32], &[Choice], &mut [i32]) -> Verdict;
+
 /// The entries of one engine. The library and the independent engine have the same.
 #[derive(Clone, Copy)]
 pub struct Entries {
     pub judge: fn(&[u8]) -> Verdict,
     pub start: fn(&[u8], &mut [i32]) -> Verdict,
     pub step: fn(&[u8], &mut [i32], i32, i32) -> Verdict,
+    pub run: Running,
 }
 
 impl Entries {
@@ -74,12 +125,18 @@ impl Entries {
         judge: independent::judge,
         start: independent::start,
         step: independent::step,
+        run: independent::run,
     };
 
     /// The library's, for a program that does without them where it is missing.
     pub fn linked() -> Option<Entries> {
         #[cfg(have_creol)]
-        return Some(Entries { judge, start, step });
+        return Some(Entries {
+            judge,
+            start,
+            step,
+            run,
+        });
         #[cfg(not(have_creol))]
         return None;
     }
@@ -109,30 +166,55 @@ mod tests {
         assert_eq!(decoded(3 + (32_769 << 16)), verdict(3, 32_769));
     }
 
-    /// As include/creol.h says of a text and of cells.
+    /// As include/creol.h says.
     #[cfg(have_creol)]
     #[test]
     fn a_slice_of_length_0_may_have_a_null_pointer() {
         let model = crate::session::MODEL.as_bytes();
-        let (text, cells) = (std::ptr::null(), std::ptr::null_mut());
+        let (text, choices) = (std::ptr::null(), std::ptr::null());
+        let (cells, answers) = (std::ptr::null_mut(), std::ptr::null_mut());
+        let mut fresh = [0; independent::configuration::CELLS];
+        assert_eq!(start(model, &mut fresh), Verdict::ACCEPTED);
         // SAFETY: behind a pointer with length 0 there is nothing to read or to write;
-        // the other text is a slice that lives through the calls.
-        let (empty, accepted) = unsafe {
+        // the other text and cells are slices that live through the calls.
+        let (empty, accepted, run) = unsafe {
             (
                 [
                     creol_judge(text, 0),
                     creol_start(text, 0, cells, 0),
                     creol_step(text, 0, cells, 0, EXEC, 1),
+                    creol_run(text, 0, cells, 0, choices, 0, answers, 0),
                 ],
                 [
                     creol_start(model.as_ptr(), model.len(), cells, 0),
                     creol_step(model.as_ptr(), model.len(), cells, 0, EXEC, 1),
+                    creol_run(
+                        model.as_ptr(),
+                        model.len(),
+                        cells,
+                        0,
+                        choices,
+                        0,
+                        answers,
+                        0,
+                    ),
                 ],
+                creol_run(
+                    model.as_ptr(),
+                    model.len(),
+                    fresh.as_mut_ptr(),
+                    fresh.len(),
+                    choices,
+                    0,
+                    answers,
+                    0,
+                ),
             )
         };
         let verdict = |number, line| Verdict { number, line };
-        assert_eq!(empty.map(decoded), [verdict(3, 1); 3]);
-        assert_eq!(accepted.map(decoded), [verdict(10, 0); 2]);
+        assert_eq!(empty.map(decoded), [verdict(3, 1); 4]);
+        assert_eq!(accepted.map(decoded), [verdict(10, 0); 3]);
+        assert_eq!(decoded(run), Verdict::ACCEPTED);
     }
 
     #[test]
