@@ -7,7 +7,12 @@
 
 #![deny(unsafe_op_in_unsafe_fn)]
 
+pub mod choices;
+pub mod composed;
 pub mod creol;
+pub mod damage;
+pub mod lent;
+pub mod models;
 pub mod places;
 pub mod probe;
 pub mod session;

@@ -1,14 +1,14 @@
 //! Steps in damaged configurations: some are none any more, and some still are.
 
+use boundary::choices::{self, OF_A_CHOICE};
+use boundary::composed::{places, running_at};
+use boundary::damage::damaged;
+use boundary::models;
 use independent::generate::{self, Random};
 use independent::model::Model;
 
 use super::both::Both;
-use super::choices;
-use super::composed::{places, running_at};
-use super::damage::damaged;
-use super::models;
-use super::tally::{Tally, OF_A_CHOICE};
+use super::tally::Tally;
 use super::walk::Walk;
 
 /// Damages the cells again and again, and takes a step in each. What is still a

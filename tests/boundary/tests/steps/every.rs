@@ -1,6 +1,9 @@
 //! Every choice in some configurations, and some configurations with every cell changed.
 
+use boundary::choices::{in_use, KINDS, NUMBERS, OF_A_CHOICE};
+use boundary::composed::{places, running_at};
 use boundary::creol::{ARRIVE, EXEC};
+use boundary::models;
 use boundary::session::MODEL;
 use independent::configuration::{CALL_ROWS, OBJECT_ROWS};
 use independent::generate::Random;
@@ -8,10 +11,7 @@ use independent::model::Model;
 use independent::Choice;
 
 use super::both::Both;
-use super::choices::{in_use, KINDS, NUMBERS};
-use super::composed::{places, running_at};
-use super::models;
-use super::tally::{Tally, OF_A_CHOICE};
+use super::tally::Tally;
 use super::walk::session_configurations;
 
 struct Configurations {

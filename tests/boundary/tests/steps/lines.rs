@@ -1,16 +1,16 @@
 //! Every line of many models, performed in configurations that no run need reach.
 
+use boundary::choices::{self, OF_A_CHOICE};
+use boundary::composed::{places, running_at, Place};
 use boundary::creol::EXEC;
+use boundary::models;
 use boundary::texts::{dense, of_length};
 use independent::generate::{self, Random};
 use independent::model::Model;
 use independent::{Choice, TEXT_BYTES};
 
 use super::both::Both;
-use super::choices;
-use super::composed::{places, running_at, Place};
-use super::models;
-use super::tally::{Tally, OF_A_CHOICE};
+use super::tally::Tally;
 
 /// The line is performed, and then some other choices are made.
 fn perform(tally: &mut Tally, random: &mut Random, text: &[u8], model: &Model, place: Place) {

@@ -8,10 +8,6 @@
 #![cfg(have_creol)]
 
 mod both;
-mod choices;
-mod composed;
-mod damage;
-mod models;
 mod tally;
 mod walk;
 

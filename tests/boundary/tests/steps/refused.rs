@@ -1,15 +1,15 @@
 //! Steps with a text that is refused or another's, and with cells in another number.
 
+use boundary::choices::{self, OF_A_CHOICE};
+use boundary::damage::OTHER_LENGTHS;
+use boundary::models;
 use boundary::session::{CHOICES, MODEL};
 use independent::generate::{self, Random};
 use independent::model::Model;
 use independent::Choice;
 
 use super::both::Both;
-use super::choices;
-use super::models;
-use super::starts::OTHER_LENGTHS;
-use super::tally::{Tally, OF_A_CHOICE};
+use super::tally::Tally;
 use super::walk::Walk;
 
 fn choice(random: &mut Random, cells: &[i32]) -> Choice {

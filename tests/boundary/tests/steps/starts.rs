@@ -1,5 +1,8 @@
 //! Starts in any cells.
 
+use boundary::composed::{places, running_at, EDGES};
+use boundary::damage::OTHER_LENGTHS;
+use boundary::models;
 use boundary::places::{call_cell, object_cell, CALLEE, CALLS, OBJECTS, RUNNING, STAGE};
 use independent::configuration::{Stage, CELLS};
 use independent::generate::{self, Random};
@@ -7,21 +10,7 @@ use independent::model::Model;
 use independent::Verdict;
 
 use super::both::Both;
-use super::composed::{places, running_at, EDGES};
-use super::models;
 use super::tally::Tally;
-
-/// Lengths that are not the right one; the last is where it is cut to 16 bits.
-pub const OTHER_LENGTHS: [usize; 8] = [
-    0,
-    1,
-    2,
-    322,
-    CELLS - 1,
-    CELLS + 1,
-    2 * CELLS,
-    CELLS + 65_536,
-];
 
 /// What document 01 says that a start writes.
 fn fresh() -> Vec<i32> {

@@ -38,9 +38,6 @@ const ACCEPTED: [&str; 21] = [
     "while, true",
 ];
 
-/// Every number of a refused choice; 28 is given for none.
-pub const OF_A_CHOICE: [u8; 14] = [12, 20, 21, 22, 23, 24, 25, 26, 27, 29, 30, 31, 32, 33];
-
 /// The calls that were compared, by what they gave.
 #[derive(Debug, Default)]
 pub struct Tally {

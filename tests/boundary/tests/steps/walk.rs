@@ -1,5 +1,6 @@
 //! Walks from the start of a model.
 
+use boundary::choices;
 use boundary::session::{CHOICES, MODEL};
 use independent::configuration::CELLS;
 use independent::generate::{self, Random};
@@ -7,7 +8,6 @@ use independent::model::Model;
 use independent::{Choice, Verdict};
 
 use super::both::Both;
-use super::choices;
 use super::tally::Tally;
 
 /// Both engines on their way through a model.

@@ -1,9 +1,10 @@
 //! Random walks over generated models, with good and bad choices.
 
+use boundary::choices::OF_A_CHOICE;
+use boundary::models;
 use independent::generate::Random;
 
-use super::models;
-use super::tally::{Tally, OF_A_CHOICE};
+use super::tally::Tally;
 use super::walk::Walk;
 
 /// So many steps for a walk: mostly some dozens, at times enough to fill the rows.

@@ -1,12 +1,24 @@
 //! Damage to configurations. What is damaged may still be a configuration.
 
-use boundary::places::{
-    call_cell, object_cell, ATTRIBUTES, CALLEE, CALLS, LOCALS, OBJECTS, RUNNING, STAGE,
-};
-use independent::configuration::{Stage, CALL_ROWS, OBJECT_ROWS};
+use independent::configuration::{Stage, CALL_ROWS, CELLS, OBJECT_ROWS};
 use independent::generate::{self, Random};
 
-use super::composed::EDGES;
+use crate::composed::EDGES;
+use crate::places::{
+    call_cell, object_cell, ATTRIBUTES, CALLEE, CALLS, LOCALS, OBJECTS, RUNNING, STAGE,
+};
+
+/// Lengths of cells that are not the right one; the last is where it is cut to 16 bits.
+pub const OTHER_LENGTHS: [usize; 8] = [
+    0,
+    1,
+    2,
+    322,
+    CELLS - 1,
+    CELLS + 1,
+    2 * CELLS,
+    CELLS + 65_536,
+];
 
 /// The cells with one change or more; at times others in number.
 pub fn damaged(random: &mut Random, cells: &[i32]) -> Vec<i32> {

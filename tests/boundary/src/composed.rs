@@ -3,10 +3,11 @@
 
 mod calls;
 
-use boundary::places::{object_cell, ATTRIBUTES, CALLS, CLASS, OBJECTS};
 use independent::configuration::{CALL_ROWS, CELLS, OBJECT_ROWS};
 use independent::generate::Random;
 use independent::model::{Class, Model};
+
+use crate::places::{object_cell, ATTRIBUTES, CALLS, CLASS, OBJECTS};
 
 /// Values at the ends of the range, and where sums and products leave it.
 pub const EDGES: [i32; 14] = [

@@ -1,14 +1,14 @@
 //! The calls of a composed configuration.
 
-use boundary::places::{
-    call_cell, object_cell, ARGS, CALLEE, CALLER, CLEARED, LINE, LOCALS, METHOD, RUNNING, STAGE,
-    VALUE,
-};
 use independent::code::Statement;
 use independent::configuration::Stage;
 use independent::model::Method;
 
 use super::{Composer, Place};
+use crate::places::{
+    call_cell, object_cell, ARGS, CALLEE, CALLER, CLEARED, LINE, LOCALS, METHOD, RUNNING, STAGE,
+    VALUE,
+};
 
 impl Composer<'_> {
     /// The call that stands at the place.

@@ -1,9 +1,10 @@
 //! Choices: in use, about what is in use, and far from it.
 
-use boundary::creol::{ARRIVE, BIND, DELIVER, EXEC, START};
-use boundary::places::{CALLS, OBJECTS};
 use independent::generate::{self, Random};
 use independent::Choice;
+
+use crate::creol::{ARRIVE, BIND, DELIVER, EXEC, START};
+use crate::places::{CALLS, OBJECTS};
 
 /// The five kinds, those about them, those at the ends of the range, and those that
 /// are one of the five where they are cut to 8 or 16 bits, or their sign is lost.
@@ -69,6 +70,9 @@ pub const NUMBERS: [i32; 30] = [
     i32::MAX - 1,
     i32::MAX,
 ];
+
+/// Every number of a refused choice; 28 is given for none.
+pub const OF_A_CHOICE: [u8; 14] = [12, 20, 21, 22, 23, 24, 25, 26, 27, 29, 30, 31, 32, 33];
 
 /// How many objects there are, for an exec, and how many calls for the others.
 pub fn in_use(kind: i32, cells: &[i32]) -> i32 {
