@@ -12,6 +12,7 @@ pub mod composed;
 pub mod creol;
 pub mod damage;
 pub mod lent;
+pub mod lists;
 pub mod models;
 pub mod places;
 pub mod probe;

@@ -1,0 +1,16 @@
+//! The library's run against the independent engine's: the verdict, every lent cell
+//! and every answer afterwards.
+//!
+//! The engines are lent the same (`both`), and what they give is counted (`tally`). The
+//! choices come from walks, good ones and bad ones.
+
+#![cfg(have_creol)]
+
+mod both;
+mod tally;
+
+mod by_steps;
+mod generated;
+mod lengths;
+mod marked;
+mod refused;
