@@ -1,13 +1,14 @@
-//! How fast the proved library is beside the independent engine: judge, start and
-//! step on the same texts, one run, in turns. `cargo run --release -p bench`.
+//! How fast the proved library is beside the independent engine: judge, start, step
+//! and run on the same texts, one run, in turns. `cargo run --release -p bench`.
 //!
-//! The ratio is the engine's time by the library's: from 1.0 on the library is as
+//! The times are of one call; a run is of 1,000 choices. The ratio is the engine's time by the library's: from 1.0 on the library is as
 //! fast or faster.
 
 use std::hint::black_box;
 use std::time::{Duration, Instant};
 
 use boundary::creol::{Entries, EXEC};
+use boundary::lists::{list, started};
 use boundary::places::{CALLS, OBJECTS};
 use boundary::session::{CHOICES, MODEL};
 use boundary::texts;
@@ -21,6 +22,9 @@ const ROUNDS: usize = 401;
 const TURN: Duration = Duration::from_millis(1);
 /// So many steps are measured together, where a text has them.
 const STEPS: usize = 8;
+/// So many choices are in a run, and of those that a walk finds refused so many per cent.
+const CHOICES_IN_A_RUN: usize = 1_000;
+const REFUSED: usize = 30;
 
 fn main() {
     let Some(proved) = Entries::linked() else {
@@ -41,13 +45,24 @@ fn main() {
             )));
         });
         let step = compared_steps(engines, &text, &choices);
-        for (entry, [proved, independent]) in [("judge", judge), ("start", start), ("step", step)] {
-            let (bytes, ratio) = (text.len(), independent / proved);
-            println!(
-                "{entry:<6} {name:<18} {bytes:>8} {proved:>12.0} {independent:>15.0} {ratio:>7.2}"
-            );
+        let run = compared_runs(engines, &text);
+        let times = [
+            ("judge", judge),
+            ("start", start),
+            ("step", step),
+            ("run", run),
+        ];
+        for (entry, times) in times {
+            show(entry, name, &text, times);
         }
     }
+    let busy = busy();
+    show("run", "busy", &busy, compared_runs(engines, &busy));
+}
+
+fn show(entry: &str, name: &str, text: &[u8], [proved, independent]: [f64; 2]) {
+    let (bytes, ratio) = (text.len(), independent / proved);
+    println!("{entry:<6} {name:<18} {bytes:>8} {proved:>12.0} {independent:>15.0} {ratio:>7.2}");
 }
 
 fn assert_accepted(verdict: Verdict) {
@@ -129,6 +144,46 @@ fn compared_steps(engines: [Entries; 2], text: &[u8], choices: &[Choice]) -> [f6
         }
     });
     times.map(|time| time / choices.len() as f64)
+}
+
+/// A text whose run never ends, with some statements in its round.
+fn busy() -> Vec<u8> {
+    texts::alone(&[
+        "while 1",
+        "set a0 a0+1",
+        "if a0-a1*2<1",
+        "set a2 a2+(a0-a1)",
+        "else",
+        "set a1 a1+1",
+        "fi",
+        "set a2 (a2*3)-(a2*2)-a2",
+        "od",
+        "return 0",
+    ])
+    .into_bytes()
+}
+
+/// The nanoseconds of a run from the start's cells on, which are put back before it.
+fn compared_runs(engines: [Entries; 2], text: &[u8]) -> [f64; 2] {
+    let fresh = started(text);
+    let mut random = Random::new(2);
+    let choices = list(&mut random, text, &fresh, CHOICES_IN_A_RUN, REFUSED);
+    let [ends, expected] = engines.map(|engine| {
+        let (mut cells, mut answers) = (fresh.clone(), vec![-1; choices.len()]);
+        assert_accepted((engine.run)(text, &mut cells, &choices, &mut answers));
+        (cells, answers)
+    });
+    assert!(ends == expected, "the engines differ");
+    let (mut cells, mut answers) = (fresh.clone(), vec![-1; choices.len()]);
+    compared(engines, |engine| {
+        cells.copy_from_slice(&fresh);
+        black_box((engine.run)(
+            black_box(text),
+            black_box(&mut cells),
+            black_box(&choices),
+            black_box(&mut answers),
+        ));
+    })
 }
 
 /// The nanoseconds of this work, with each of the two: those of its quickest round.
