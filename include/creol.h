@@ -1,11 +1,13 @@
 /* The entries of the Creol engine for programs in C: link libcreol.a.
  *
- * Every function takes any bytes of any number, any cells of any number and any choices, and gives one answer:
+ * Every function takes any bytes of any number, any cells of any number, any choices and any budget,
+ * and gives one answer:
  *
  *     number + 2^8 * column + 2^16 * line + 2^32 * steps + 2^48 * quiet
  *
  * The number is 0 for an acceptance, and else that of the refusal; the line is counted from 1,
- * and 0 where the number names none. Judge, start, step and run give no column, no steps and no quiet.
+ * and 0 where the number names none. Steps and quiet are those of an accepted drive, and else 0; no function gives
+ * a column.
  *
  * No function keeps a pointer. What has length 0 may have a null pointer.
  */
@@ -41,9 +43,15 @@ uint64_t creol_step(const uint8_t *text, size_t text_len, int32_t *cells, size_t
  * have one place for each choice: their length is half of that of the choices, rounded down, and any other is refused
  * with 13. It reads the text, the cells and the choices. An acceptance writes the last configuration in the cells and
  * every answer: 0 where the choice was accepted, and else the number of its refusal, behind which the run goes on. A
- * refusal writes no cell and no answer. Cells, answers, choices and text must not overlap. */
+ * refusal writes no cell and no answer. Cells and answers must not overlap each other, nor the text or the choices. */
 uint64_t creol_run(const uint8_t *text, size_t text_len, int32_t *cells, size_t cells_len, const int32_t *choices,
                    size_t choices_len, int32_t *answers, size_t answers_len);
+
+/* A drive: up to budget steps, each the first that is accepted of exec 1, 2 and so on, arrive, bind, start and deliver.
+ * A budget over 10,000 is refused with 14. It reads the text and the cells. An acceptance writes the last configuration
+ * in the cells, and gives the steps that were taken, and quiet: 1 where no choice is accepted in that configuration. A
+ * refusal writes no cell. The cells must not overlap the text. */
+uint64_t creol_drive(const uint8_t *text, size_t text_len, int32_t *cells, size_t cells_len, uint32_t budget);
 
 #ifdef __cplusplus
 }
@@ -52,5 +60,7 @@ uint64_t creol_run(const uint8_t *text, size_t text_len, int32_t *cells, size_t 
 /* The parts of an answer. */
 static inline unsigned creol_number(uint64_t answer) { return (unsigned)(answer & 0xff); }
 static inline unsigned creol_line(uint64_t answer) { return (unsigned)(answer >> 16 & 0xffff); }
+static inline unsigned creol_steps(uint64_t answer) { return (unsigned)(answer >> 32 & 0xffff); }
+static inline unsigned creol_quiet(uint64_t answer) { return (unsigned)(answer >> 48 & 1); }
 
 #endif
