@@ -1,6 +1,6 @@
 //! The engine's entries.
 
-pub use independent::{Choice, Verdict};
+pub use independent::{Choice, Drive, Verdict};
 
 /// The kinds of a choice. An exec is of an object, the others are of a label.
 pub const EXEC: i32 = 1;
@@ -33,6 +33,14 @@ extern "C" {
         choices_len: usize,
         answers: *mut i32,
         answers_len: usize,
+    ) -> u64;
+
+    fn creol_drive(
+        text: *const u8,
+        text_len: usize,
+        cells: *mut i32,
+        cells_len: usize,
+        budget: u32,
     ) -> u64;
 }
 
@@ -108,6 +116,21 @@ pub fn run_numbers(
     })
 }
 
+/// The library's drive, of at most so many steps.
+#[cfg(have_creol)]
+pub fn drive(text: &[u8], cells: &mut [i32], budget: u32) -> Drive {
+    // SAFETY: as for `start`; and it demands nothing of the budget.
+    decoded_drive(unsafe {
+        creol_drive(
+            text.as_ptr(),
+            text.len(),
+            cells.as_mut_ptr(),
+            cells.len(),
+            budget,
+        )
+    })
+}
+
 /// A run: text, cells, choices and answers.
 pub type Running = fn(&[u8], &mut [i32], &[Choice], &mut [i32]) -> Verdict;
 
@@ -118,6 +141,7 @@ pub struct Entries {
     pub start: fn(&[u8], &mut [i32]) -> Verdict,
     pub step: fn(&[u8], &mut [i32], i32, i32) -> Verdict,
     pub run: Running,
+    pub drive: fn(&[u8], &mut [i32], u32) -> Drive,
 }
 
 impl Entries {
@@ -126,6 +150,7 @@ impl Entries {
         start: independent::start,
         step: independent::step,
         run: independent::run,
+        drive: independent::drive,
     };
 
     /// The library's, for a program that does without them where it is missing.
@@ -136,6 +161,7 @@ impl Entries {
             start,
             step,
             run,
+            drive,
         });
         #[cfg(not(have_creol))]
         return None;
@@ -154,6 +180,18 @@ pub fn decoded(answer: u64) -> Verdict {
     }
 }
 
+/// The drive in an answer that is a verdict's + 2^32 * steps + 2^48 * quiet, where quiet
+/// is 1 or 0.
+pub fn decoded_drive(answer: u64) -> Drive {
+    let quiet = answer >> 48;
+    assert!(quiet <= 1, "no drive: {answer:#x}");
+    Drive {
+        verdict: decoded(answer & 0xffff_ffff),
+        steps: u32::from((answer >> 32) as u16),
+        quiet: quiet == 1,
+    }
+}
+
 #[cfg(test)]
 mod tests {
     use super::*;
@@ -164,6 +202,33 @@ mod tests {
         let verdict = |number, line| Verdict { number, line };
         assert_eq!(decoded(5 + (27 << 16)), verdict(5, 27));
         assert_eq!(decoded(3 + (32_769 << 16)), verdict(3, 32_769));
+    }
+
+    #[test]
+    fn the_answer_of_a_drive_has_steps_and_quiet_too() {
+        let drive = |number, line, steps, quiet| Drive {
+            verdict: Verdict { number, line },
+            steps,
+            quiet,
+        };
+        assert_eq!(decoded_drive(12 << 32), drive(0, 0, 12, false));
+        let quiet = 1 << 48;
+        assert_eq!(decoded_drive((13 << 32) + quiet), drive(0, 0, 13, true));
+        assert_eq!(decoded_drive(quiet), drive(0, 0, 0, true));
+        assert_eq!(decoded_drive(10_000 << 32), drive(0, 0, 10_000, false));
+        assert_eq!(decoded_drive(5 + (27 << 16)), drive(5, 27, 0, false));
+    }
+
+    #[test]
+    #[should_panic(expected = "no drive")]
+    fn quiet_is_yes_or_no() {
+        decoded_drive(2 << 48);
+    }
+
+    #[test]
+    #[should_panic(expected = "no verdict")]
+    fn a_drive_has_no_column() {
+        decoded_drive((12 << 32) + (1 << 8));
     }
 
     /// As include/creol.h says.
@@ -184,6 +249,7 @@ mod tests {
                     creol_start(text, 0, cells, 0),
                     creol_step(text, 0, cells, 0, EXEC, 1),
                     creol_run(text, 0, cells, 0, choices, 0, answers, 0),
+                    creol_drive(text, 0, cells, 0, 1),
                 ],
                 [
                     creol_start(model.as_ptr(), model.len(), cells, 0),
@@ -198,6 +264,7 @@ mod tests {
                         answers,
                         0,
                     ),
+                    creol_drive(model.as_ptr(), model.len(), cells, 0, 1),
                 ],
                 creol_run(
                     model.as_ptr(),
@@ -212,8 +279,8 @@ mod tests {
             )
         };
         let verdict = |number, line| Verdict { number, line };
-        assert_eq!(empty.map(decoded), [verdict(3, 1); 4]);
-        assert_eq!(accepted.map(decoded), [verdict(10, 0); 3]);
+        assert_eq!(empty.map(decoded), [verdict(3, 1); 5]);
+        assert_eq!(accepted.map(decoded), [verdict(10, 0); 4]);
         assert_eq!(decoded(run), Verdict::ACCEPTED);
     }
 
