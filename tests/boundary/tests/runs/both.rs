@@ -2,7 +2,7 @@
 
 use boundary::creol::{run_numbers, Entries};
 use boundary::lent::{shown, Lent};
-use independent::{Choice, Verdict};
+use independent::{Choice, Drive, Verdict};
 
 /// What a run begins with. The choices are numbers, of which an odd one at the end is
 /// no choice.
@@ -69,6 +69,25 @@ impl Run<'_> {
         }
         shown
     }
+}
+
+/// A drive of both engines: what both gave, and the cells. Panics where they differ,
+/// where a refusal has written a cell, or where one is written that is not lent.
+pub fn drive(text: &[u8], cells: &[i32], budget: u32) -> (Drive, Vec<i32>) {
+    let library = Entries::linked().expect("the library");
+    let mut expected_cells = cells.to_vec();
+    let expected = (Entries::INDEPENDENT.drive)(text, &mut expected_cells, budget);
+    let mut lent = Lent::of(cells);
+    let drive = (library.drive)(text, lent.numbers_mut(), budget);
+    let is_kept = drive.verdict.is_accepted() || lent.numbers() == cells;
+    if drive != expected || lent.numbers() != expected_cells || !is_kept || !lent.is_kept_around() {
+        panic!(
+            "{drive:?} in place of {expected:?}, budget {budget}, kept around: {}\n{}",
+            lent.is_kept_around(),
+            shown(cells, lent.numbers(), &expected_cells, text),
+        );
+    }
+    (drive, expected_cells)
 }
 
 /// What stands in an answer's place before a run: no answer, and another in each.

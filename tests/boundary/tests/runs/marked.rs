@@ -1,13 +1,13 @@
-//! The marked cases of document 01 that a run can show, with the answers that it gives.
+//! The marked cases of document 01 that a run or a drive can show, with the answers that it gives.
 
 use boundary::lists::started;
 use boundary::places::{object_cell, ATTRIBUTES, CALLS, OBJECTS};
 use boundary::session::{ANSWERS, CHOICES, MODEL};
 use boundary::texts::alone;
 use independent::configuration::CELLS;
-use independent::Verdict;
+use independent::{Drive, Verdict};
 
-use super::both::{numbers, Run};
+use super::both::{drive, numbers, Run};
 
 /// The answers, and the cells, of the session's choices in this text.
 fn session_in(text: &str) -> (Vec<i32>, Vec<i32>) {
@@ -59,7 +59,24 @@ fn arithmetic() {
     }
 }
 
-/// A text that is refused is so by a run too, and nothing is written.
+#[test]
+fn drives() {
+    let text = MODEL.as_bytes();
+    for (budget, steps, quiet) in [(12, 12, false), (13, 13, true), (0, 0, false)] {
+        let (given, _) = drive(text, &started(text), budget);
+        let expected = Drive {
+            verdict: Verdict::ACCEPTED,
+            steps,
+            quiet,
+        };
+        assert_eq!(given, expected);
+    }
+    let (_, cells) = drive(text, &started(text), 13);
+    assert_eq!(cells[object_cell(1, ATTRIBUTES + 1)], 7);
+    assert!(cells == session_in(MODEL).1);
+}
+
+/// A text that is refused is so by a run and by a drive too, and nothing is written.
 #[test]
 fn texts() {
     let wrong = alone(&["set a0 1<2<3", "return 0"]);
@@ -72,5 +89,9 @@ fn texts() {
         }
         .compare();
         assert_eq!(given.verdict, Verdict { number, line });
+        let (given, cells) = drive(text.as_bytes(), &[7; CELLS], 13);
+        assert_eq!(given.verdict, Verdict { number, line });
+        assert_eq!((given.steps, given.quiet), (0, false));
+        assert_eq!(cells, [7; CELLS]);
     }
 }
