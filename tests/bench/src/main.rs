@@ -1,7 +1,7 @@
-//! How fast the proved library is beside the independent engine: judge, start, step
-//! and run on the same texts, one run, in turns. `cargo run --release -p bench`.
+//! How fast the proved library is beside the independent engine: judge, start, step,
+//! run and drive on the same texts, one run, in turns. `cargo run --release -p bench`.
 //!
-//! The times are of one call; a run is of 1,000 choices. The ratio is the engine's time by the library's: from 1.0 on the library is as
+//! The times are of one call; a run is of 1,000 choices, a drive of 10,000 steps. The ratio is the engine's time by the library's: from 1.0 on the library is as
 //! fast or faster.
 
 use std::hint::black_box;
@@ -14,7 +14,7 @@ use boundary::session::{CHOICES, MODEL};
 use boundary::texts;
 use independent::configuration::CELLS;
 use independent::generate::{self, Random};
-use independent::{Choice, Verdict};
+use independent::{Choice, Verdict, BUDGET_LIMIT};
 
 const ROUNDS: usize = 401;
 /// How long an engine is at it in a round, at least. Rounds are short and many, so
@@ -56,8 +56,10 @@ fn main() {
             show(entry, name, &text, times);
         }
     }
-    let busy = busy();
-    show("run", "busy", &busy, compared_runs(engines, &busy));
+    for (name, text) in [("busy", busy()), ("128 calls", calls())] {
+        show("run", name, &text, compared_runs(engines, &text));
+        show("drive", name, &text, compared_drives(engines, &text));
+    }
 }
 
 fn show(entry: &str, name: &str, text: &[u8], [proved, independent]: [f64; 2]) {
@@ -161,6 +163,63 @@ fn busy() -> Vec<u8> {
         "return 0",
     ])
     .into_bytes()
+}
+
+/// A text whose run makes 31 objects, calls them 127 times and waits for ever, while the
+/// called give way to one another: a drive finds its next start behind all that is
+/// refused.
+fn calls() -> Vec<u8> {
+    let lines = |code: &[&str]| -> String {
+        let count = format!("lines={}\n", code.len());
+        let value = |value: &&str| format!("code={value}\n");
+        count + &code.iter().map(value).collect::<String>()
+    };
+    let run = [
+        "while a0<31",
+        "new v0 1",
+        "set a0 a0+1",
+        "od",
+        "while a1<127",
+        "if a0<2",
+        "set a0 32",
+        "else",
+        "fi",
+        "call v0 a0 0",
+        "set a0 a0-1",
+        "set a1 a1+1",
+        "od",
+        "await [0]",
+        "return 0",
+    ];
+    let called = ["while 1", "await wait", "od", "return 0"];
+    let mut text = String::from("creol=1\nclasses=2\nclass=0\nattrs=2\ngiven=0\nrun=1\n");
+    text += "methods=1\nmethod=0\nparams=0\nlocals=1\n";
+    text += &lines(&run);
+    text += "class=1\nattrs=0\ngiven=0\nrun=0\n";
+    text += "methods=1\nmethod=0\nparams=0\nlocals=0\n";
+    text += &lines(&called);
+    text.into_bytes()
+}
+
+/// The nanoseconds of a drive from the start's cells on, which are put back before it.
+fn compared_drives(engines: [Entries; 2], text: &[u8]) -> [f64; 2] {
+    let fresh = started(text);
+    let [end, expected] = engines.map(|engine| {
+        let mut cells = fresh.clone();
+        let drive = (engine.drive)(text, &mut cells, BUDGET_LIMIT);
+        assert_eq!(drive.steps, BUDGET_LIMIT);
+        (drive, cells)
+    });
+    assert!(end == expected, "the engines differ");
+    let mut cells = fresh.clone();
+    compared(engines, |engine| {
+        cells.copy_from_slice(&fresh);
+        black_box((engine.drive)(
+            black_box(text),
+            black_box(&mut cells),
+            black_box(BUDGET_LIMIT),
+        ));
+    })
 }
 
 /// The nanoseconds of a run from the start's cells on, which are put back before it.
