@@ -80,7 +80,7 @@ fn budget(random: &mut Random) -> u32 {
 fn over_short_models() {
     let mut tally = Tally::default();
     let mut random = Random::new(51);
-    for index in 0..4_000 {
+    for index in 0..8_000 {
         let text = models::short(&mut random);
         let mut cells = started(&text);
         if index % 2 == 1 {
@@ -91,25 +91,26 @@ fn over_short_models() {
         tally.from(&mut random, &text, &cells);
     }
     println!("{tally:#?}");
-    assert!(tally.drives >= 18_000, "{tally:#?}");
-    assert!(tally.steps >= 3_000_000, "{tally:#?}");
-    assert!(tally.of_none >= 400, "{tally:#?}");
-    assert!(tally.quiet >= 5_000, "{tally:#?}");
-    assert!(tally.quiet_at_budget >= 3_500, "{tally:#?}");
-    assert!(tally.at_budget >= 5_000, "{tally:#?}");
-    assert!(tally.at_limit >= 40, "{tally:#?}");
+    assert!(tally.drives >= 36_000, "{tally:#?}");
+    assert!(tally.steps >= 8_000_000, "{tally:#?}");
+    assert!(tally.of_none >= 1_000, "{tally:#?}");
+    assert!(tally.quiet >= 10_000, "{tally:#?}");
+    assert!(tally.quiet_at_budget >= 8_000, "{tally:#?}");
+    assert!(tally.at_budget >= 8_000, "{tally:#?}");
+    assert!(tally.at_limit >= 80, "{tally:#?}");
 }
 
 #[test]
 fn over_any_models() {
     let mut tally = Tally::default();
     let mut random = Random::new(52);
-    for _ in 0..500 {
+    for _ in 0..1_000 {
         let text = generate::text(&mut random);
         tally.from(&mut random, &text, &started(&text));
     }
     println!("{tally:#?}");
-    assert!(tally.drives >= 2_000, "{tally:#?}");
+    assert!(tally.drives >= 4_000, "{tally:#?}");
+    assert!(tally.steps >= 600_000, "{tally:#?}");
 }
 
 /// From configurations that no run need reach, composed of any rows.
@@ -117,7 +118,7 @@ fn over_any_models() {
 fn from_any_configuration() {
     let mut tally = Tally::default();
     let mut random = Random::new(53);
-    for _ in 0..500 {
+    for _ in 0..2_000 {
         let text = match random.percent(30) {
             true => models::statements().into_bytes(),
             false => models::short(&mut random),
@@ -128,9 +129,10 @@ fn from_any_configuration() {
         tally.from(&mut random, &text, &cells);
     }
     println!("{tally:#?}");
-    assert!(tally.drives >= 2_000, "{tally:#?}");
-    assert!(tally.steps >= 200_000, "{tally:#?}");
-    assert!(tally.quiet_at_budget >= 300, "{tally:#?}");
+    assert!(tally.drives >= 8_000, "{tally:#?}");
+    assert!(tally.steps >= 2_000_000, "{tally:#?}");
+    assert!(tally.quiet_at_budget >= 2_000, "{tally:#?}");
+    assert!(tally.at_limit >= 80, "{tally:#?}");
 }
 
 #[test]
