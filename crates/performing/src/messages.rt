@@ -31,16 +31,29 @@ ghost use Rattle.lookup.specs.Vocabulary.Found as Found;
 ghost use Rattle.forms.specs.Vocabulary.Done.{Done};
 ghost use Rattle.performing.specs.Vocabulary.Parts as Parts;
 
+// A call that goes from one stage to another, or the number that refuses it where it is not in the first.
+fn moved_on(cells: &mut [i32], l: Label, from: u8, to: u8, refusal: u32) -> u32
+    ensures { λ r. ⌜ Done (now (cells .entry)) (Next.must (Stages.inStage (now (cells .entry)) (l .0) from) refusal (Next.moved (Stages.staged (now (cells .entry)) (l .0) to))) r (now (cells .exit)) ⌝ }
+{
+    if stages::in_stage(cells, l, from) {
+        writers::to_stage(cells, l, to);
+        refusals::ACCEPTED
+    } else {
+        refusal
+    }
+}
+
 // "arrive L (2): stage 1 to 2."
 pub fn arrive(cells: &mut [i32], l: Label) -> u32
     ensures { λ r. ⌜ Done (now (cells .entry)) (Messages.arrive (now (cells .entry)) (l .0)) r (now (cells .exit)) ⌝ }
 {
-    if stages::in_stage(cells, l, stages::INVOKED) {
-        writers::to_stage(cells, l, stages::QUEUED);
-        refusals::ACCEPTED
-    } else {
-        refusals::NOT_INVOKED
-    }
+    moved_on(
+        cells,
+        l,
+        stages::INVOKED,
+        stages::QUEUED,
+        refusals::NOT_INVOKED,
+    )
 }
 
 // "bind L (3): 2 to 3, if the callee's class has the method with as many params as args."
@@ -163,10 +176,11 @@ pub fn start(text: &[u8], table: &[u32], shapes: &[u8], cells: &mut [i32], l: La
 pub fn deliver(cells: &mut [i32], l: Label) -> u32
     ensures { λ r. ⌜ Done (now (cells .entry)) (Messages.deliver (now (cells .entry)) (l .0)) r (now (cells .exit)) ⌝ }
 {
-    if stages::in_stage(cells, l, stages::ANSWERED) {
-        writers::to_stage(cells, l, stages::REPLIED);
-        refusals::ACCEPTED
-    } else {
-        refusals::NOT_ANSWERED
-    }
+    moved_on(
+        cells,
+        l,
+        stages::ANSWERED,
+        stages::REPLIED,
+        refusals::NOT_ANSWERED,
+    )
 }
