@@ -13,7 +13,7 @@ use Rattle.terms.specs.Parsed.{Parsed, got, bad, word}
 use Rattle.model.specs.InOrder.{LinesRead, failed, after, Reader, done, _>>=_, Taken, wrong, right, passed, keyLine, numberLine, each}
 use Rattle.model.specs.Lines.{Line, sound, content}
 use Rattle.model.specs.Numbers.{numberIn}
-use Rattle.model.proofs.ReadBounds.{number-range}
+use Rattle.model.proofs.ReadBounds.{number-is}
 
 -- what was read, if anything was, has a property
 abbrev pub Brought : {A : Type 0} → (A → Type 0) → LinesRead A → Type 0
@@ -84,7 +84,7 @@ brings-number key lowest highest = brings-key _ key _ (λ at v. go v (numberIn l
     go : (v : Text) (o : Option ℕ) → numberIn lowest highest v ≡ o
         → TakenAs (λ n. (lowest ≤ n) × (n ≤ highest)) (elim o [ none ↦ wrong wrongNumber | some n ↦ right n ])
     go v none e = tt
-    go v (some n) e = number-range lowest highest v n e
+    go v (some n) e = let h = number-is lowest highest v n e in (h .1, h .2)
 
 -- of what was read, with what is carried on from it
 abbrev pub Along : {A S : Type 0} → (A → S → Type 0) → A × S → Type 0

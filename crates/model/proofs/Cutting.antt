@@ -4,9 +4,10 @@ use mathlib.Core.Bool.{Bool, true, false}
 use mathlib.Core.List.{List, [], _∷_}
 use mathlib.Core.Path.{_≡_, refl, sym, ap, subst, _∙_}
 use native.Mathlib.Omega.{arith}
+use borrow.Author.Tests.{eqb-true}
 use lib.Dec.{eqb}
 use lib.ListN.{length, take, drop, drop-of-length-le}
-use Rattle.terms.specs.Bytes.{Text}
+use Rattle.terms.specs.Bytes.{Text, byteAt}
 use Rattle.model.specs.Lines.{Line, terminated, unterminated, grown, lines, lineFeed}
 
 -- the first byte of a text is an LF, or not
@@ -52,14 +53,15 @@ lines-some b s = go (eqb b lineFeed) refl
 -- the first line stands at the text's front with its LF behind it, and the others behind that
 pub record Front (s l : Text) (ls : List Line) : Type 0 where
   pub front : l ≡ take (length l) s
+  pub fed : byteAt s (length l) ≡ lineFeed
   pub rest : ls ≡ lines (drop (suc (length l)) s)
   pub within : length l < length s
 
-front-none : (b : ℕ) (s : Text) → Front (b ∷ s) [] (lines s)
-front-none b s = record { front = refl; rest = refl; within = omega arith }
+front-none : (b : ℕ) (s : Text) → b ≡ lineFeed → Front (b ∷ s) [] (lines s)
+front-none b s e = record { front = refl; fed = e; rest = refl; within = omega arith }
 
 front-more : (b : ℕ) (s l : Text) (ls : List Line) → Front s l ls → Front (b ∷ s) (b ∷ l) ls
-front-more b s l ls f = record { front = ap (λ t. b ∷ t) (f .front); rest = f .rest; within = omega (arith, f .within) }
+front-more b s l ls f = record { front = ap (λ t. b ∷ t) (f .front); fed = f .fed; rest = f .rest; within = omega (arith, f .within) }
 
 ungrown : (b : ℕ) (ms : List Line) (l : Text) (ls : List Line) → grown b ms ≡ terminated l ∷ ls → (m : Text) × (ms ≡ terminated m ∷ ls) × (l ≡ b ∷ m)
 ungrown b [] l ls e = absurd (let z : _≡_ {A = ℕ} 0 1 = cc (grown-none b) in omega arith)
@@ -74,7 +76,7 @@ cut-whole (b ∷ s) l ls e = go (eqb b lineFeed) refl (cut-whole s)
     go true f more =
         let n : [] ≡ l = cc (lines-first b s f) in
         let k : lines s ≡ ls = cc (lines-first b s f) in
-        subst (λ t. Front (b ∷ s) t ls) n (subst (Front (b ∷ s) []) k (front-none b s))
+        subst (λ t. Front (b ∷ s) t ls) n (subst (Front (b ∷ s) []) k (front-none b s (eqb-true _ _ f)))
     go false f more =
         let u = ungrown b (lines s) l ls (sym (lines-later b s f) ∙ e) in
         subst (λ t. Front (b ∷ s) t ls) (sym (u .2)) (front-more b s (u .0) ls (more (u .0) ls (u .1)))

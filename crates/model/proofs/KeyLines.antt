@@ -19,7 +19,7 @@ use Rattle.model.specs.declared.Verdict.{Verdict}
 use Rattle.model.specs.InOrder.{LinesRead, failed, after, Taken, wrong, right, passed, keyLine, numberLine}
 use Rattle.model.specs.Lines.{Line, terminated, lines, sound, content, longestLine, plainBytes}
 use Rattle.model.specs.Numbers.{numberIn}
-use Rattle.model.specs.Vocabulary.Readings.{Placed, readAt, allPositive, keyed, KeyTold}
+use Rattle.model.specs.Vocabulary.Readings.{Placed, readAt, keyed, KeyTold}
 use Rattle.whole.proofs.Both.{both-left}
 use Rattle.model.proofs.Cutting.{line-none}
 use Rattle.model.proofs.ReadBounds.{word-within}
@@ -31,27 +31,27 @@ drop-take zero m l = ap (λ n. take n l) (zero-add m)
 drop-take (suc p) m [] = ap (drop (suc p)) (take-nil (suc p + m)) ∙ sym (take-nil m)
 drop-take (suc p) m (b ∷ l) = ap (λ n. drop (suc p) (take n (b ∷ l))) (suc-add p m) ∙ drop-take p m l
 
-value-part : (s : Text) (place end p : ℕ) → place + p ≤ end → drop p (take (end - place) (drop place s)) ≡ take (end - (place + p)) (drop (place + p) s)
+pub value-part : (s : Text) (place end p : ℕ) → place + p ≤ end → drop p (take (end - place) (drop place s)) ≡ take (end - (place + p)) (drop (place + p) s)
 value-part s place end p h =
     let n : end - place ≡ p + (end - (place + p)) = omega arith in
     ap (λ m. drop p (take m (drop place s))) n ∙ drop-take p (end - (place + p)) (drop place s) ∙ ap (take (end - (place + p))) (drop-drop p place s)
 
 -- a sound line is short
-sound-short : (l : Text) → sound (terminated l) ≡ true → length l ≤ longestLine
+pub sound-short : (l : Text) → sound (terminated l) ≡ true → length l ≤ longestLine
 unfolding sound
 sound-short l e = leb-true _ _ (both-left _ (plainBytes l) e)
 
 -- the first of some lines
 module _ (key : Text) (at : ℕ) (l : Line) (ls : List Line) where
-  keyed-broken : sound l ≡ false → keyed key at (l ∷ ls) ≡ failed (record { number = brokenLine; line = at })
+  pub keyed-broken : sound l ≡ false → keyed key at (l ∷ ls) ≡ failed (record { number = brokenLine; line = at })
   unfolding keyLine passed
   keyed-broken e = rw (e, keyLine) refl
 
-  keyed-wrong : (p : ℕ) → sound l ≡ true → word key (content l) 0 ≡ bad p → keyed key at (l ∷ ls) ≡ failed (record { number = wrongKey; line = at })
+  pub keyed-wrong : (p : ℕ) → sound l ≡ true → word key (content l) 0 ≡ bad p → keyed key at (l ∷ ls) ≡ failed (record { number = wrongKey; line = at })
   unfolding keyLine passed
   keyed-wrong p e f = rw (e, keyLine, f) refl
 
-  keyed-right : (p : ℕ) (u : Unit {0}) → sound l ≡ true → word key (content l) 0 ≡ got p u → keyed key at (l ∷ ls) ≡ after (drop p (content l)) (at + 1) ls
+  pub keyed-right : (p : ℕ) (u : Unit {0}) → sound l ≡ true → word key (content l) 0 ≡ got p u → keyed key at (l ∷ ls) ≡ after (drop p (content l)) (at + 1) ls
   unfolding keyLine passed
   keyed-right p u e f = rw (e, keyLine, f) refl
 
@@ -75,9 +75,9 @@ module _ (s key : Text) (p : At) where
     line-length : length line ≡ e - p .place
     line-length = omega (arith, length-take (e - p .place) (drop (p .place) s), length-drop (p .place) s, l .from, l .within)
 
-    module _ (n : ℕ) (f : word key line 0 ≡ got n tt) (pos : allPositive key ≡ true) where
+    module _ (n : ℕ) (f : word key line 0 ≡ got n tt) (plain : plainBytes key ≡ true) where
       pub key-inside : p .place + n ≤ e
-      key-inside = omega (arith, word-within key line 0 n tt pos (omega arith) f, line-length, l .from)
+      key-inside = omega (arith, word-within key line 0 n tt plain (omega arith) f, line-length, l .from)
 
       pub key-right : p .line ≤ p .place + 1 → KeyTold s p (Keyed.Value (p .place + n) e) (readAt (keyed key) s p)
       unfolding KeyTold content

@@ -28,6 +28,7 @@ pub mod Puts
 pub mod ReadBounds
 pub mod Session
 pub mod SoundEnds
+pub mod Straight
 pub mod TableRows
 pub mod VerdictBounds
 pub mod Verdicts

@@ -8,7 +8,6 @@ use Rattle.model.specs.ModelText
 use Rattle.model.specs.Numbers
 use Rattle.model.specs.Vocabulary.Table
 use Rattle.model.specs.Vocabulary.LineEnds
-use Rattle.model.specs.Vocabulary.NumberLines
 use Rattle.code.proofs.Open.{code-open}
 
 unfoldable pub model-open : Unit {0}
@@ -17,5 +16,5 @@ unfolding code-open Judge.givenTo Judge.countsJudged Judge.endJudged InOrder.don
     ModelText.readClass ModelText.readModel Judge.judged Judge.verdictOf Judge.judge Creations.newNumber
     Creations.creationTold Creations.creationsFrom Creations.newFits Lines.grown Lines.lines Lines.plainByte Lines.plainBytes
     Lines.sound Lines.content LineEnds.firstEnd LineEnds.soundEnd Model.runs Model.takes Model.methodOf Model.bindsTo Numbers.numberIn
-    NumberLines.asNumberLine Table.rowAt Table.classesIn Table.put Table.Rows
+    Table.rowAt Table.classesIn Table.put Table.Rows
 model-open = tt

@@ -5,11 +5,12 @@ use mathlib.Core.List.{[], _∷_, _++_}
 use mathlib.Core.Path.{_≡_, refl, sym, ap, _∙_}
 use native.Mathlib.Numerals.{add-one}
 use native.Mathlib.Omega.{arith}
-use borrow.Author.Tests.{le-leb, lt-leb}
+use borrow.Author.Tests.{le-leb, lt-leb, leb-true}
 use lib.Dec.{leb}
 use lib.ListN.{length, take, drop, length-drop}
 use lib.Seq.{take-suc, take-add, drop-drop, getD-drop}
 use Rattle.terms.specs.Bytes.{Text, byteAt}
+use Rattle.whole.proofs.Both.{both-left, both-right}
 use Rattle.model.specs.Lines.{plainByte, plainBytes, lineFeed}
 
 -- a byte by its two bounds
@@ -31,6 +32,11 @@ module _ (b : ℕ) (s : Text) where
   pub outside-first : plainByte b ≡ false → plainBytes (b ∷ s) ≡ false
   unfolding plainBytes
   outside-first e = rw (e, plainBytes)
+
+-- a plain byte is within its bounds
+pub plain-bounds : (b : ℕ) → plainByte b ≡ true → (32 ≤ b) × (b ≤ 126)
+unfolding plainByte
+plain-bounds b e = (leb-true _ _ (both-left _ (leb b 126) e), leb-true _ _ (both-right (leb 32 b) _ e))
 
 -- an LF is outside
 pub plain-unfed : (b : ℕ) → plainByte b ≡ true → b ≡ lineFeed → ⊥

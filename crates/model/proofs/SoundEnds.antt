@@ -159,7 +159,7 @@ content-whole : (l : Text) → content (terminated l) ≡ l
 unfolding content
 content-whole l = refl
 
-sound-unended : (l : Text) → sound (unterminated l) ≡ false
+pub sound-unended : (l : Text) → sound (unterminated l) ≡ false
 unfolding sound
 sound-unended l = refl
 

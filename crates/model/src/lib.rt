@@ -8,7 +8,6 @@ pub mod judging;
 pub mod key_lines;
 pub mod lines;
 pub mod methods;
-pub mod numbers;
 pub mod table;
 
 // A number given back, with the line of the text that it names: 0 where it names none.
@@ -40,12 +39,6 @@ pub enum Keyed {
 pub enum LineFound {
     Sound(usize),
     Broken,
-}
-
-// A value as a number within its range, or none: "its form, its range".
-pub enum NumberLine {
-    Is(u32),
-    Bad,
 }
 
 // The class being read: how many classes there are, its index, its attributes, and whether it runs.

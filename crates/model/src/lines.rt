@@ -7,7 +7,7 @@ ghost use lib.ListN.{length, take, drop};
 ghost use Rattle.model.specs.Lines as Lines;
 ghost use Rattle.model.specs.Vocabulary.LineEnds as LineEnds;
 
-const LONGEST_LINE: usize = 120;
+pub const LONGEST_LINE: usize = 120;
 
 // So many bytes are tested without a branch between them, which the compiler does at once.
 const GROUP: usize = 8;

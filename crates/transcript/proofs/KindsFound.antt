@@ -9,7 +9,7 @@ use lib.ListN.{length, drop, getD, drop-of-length-le}
 use lib.Seq.{drop-cons}
 use Rattle.terms.specs.Bytes.{Text}
 use Rattle.terms.specs.Parsed.{got, bad, word}
-use Rattle.model.specs.Vocabulary.Readings.{allPositive}
+use Rattle.model.specs.Lines.{plainByte, plainBytes}
 use Rattle.model.proofs.ReadBounds.{word-within}
 use Rattle.rules.specs.Kinds.{Kind, exec, arrive, bind, start, deliver, kinds, kindNumber}
 use Rattle.session.specs.Choices.{kindName, noChoice, choiceOf, digitsAlone}
@@ -50,17 +50,17 @@ module _ (l : Text) (n : ℕ) where
   pub none-left : 5 < n → choiceOf (drop (n - 1) kinds) l ≡ noChoice
   none-left h = let k : 5 ≤ n - 1 = omega arith in ap (λ ks. choiceOf ks l) (drop-of-length-le kinds k) ∙ kinds-none l
 
--- a name has no byte 0, so what follows it stands within the line
-name-positive : (k : Kind) → allPositive (kindName k) ≡ true
-unfolding allPositive kindName
-name-positive exec = refl
-name-positive arrive = refl
-name-positive bind = refl
-name-positive start = refl
-name-positive deliver = refl
+-- a name is plain, so what follows it stands within the line
+name-plain : (k : Kind) → plainBytes (kindName k) ≡ true
+unfolding plainByte plainBytes kindName
+name-plain exec = refl
+name-plain arrive = refl
+name-plain bind = refl
+name-plain start = refl
+name-plain deliver = refl
 
 pub name-within : (k : Kind) (l : Text) (at : ℕ) → word (kindName k) l 0 ≡ got at tt → at ≤ length l
-name-within k l at e = word-within (kindName k) l 0 at tt (name-positive k) (omega arith) e
+name-within k l at e = word-within (kindName k) l 0 at tt (name-plain k) (omega arith) e
 
 -- what is none of the first four is the fifth
 pub fifth : (n : ℕ) → 1 ≤ n → n ≤ 5 → (n ≡ 1 → ⊥) → (n ≡ 2 → ⊥) → (n ≡ 3 → ⊥) → (n ≡ 4 → ⊥) → 5 ≡ n

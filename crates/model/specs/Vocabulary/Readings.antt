@@ -1,9 +1,9 @@
 -- Vocabulary of the code: what the code gives of a reading of lines: the same verdict, or the same place and what was read. Assumes nothing.
 use Prim.Native.Nat.{ℕ, _+_, _-_, _*_, _≤_, _<_}
-use mathlib.Core.Bool.{Bool, true, false}
+use mathlib.Core.Bool.{true}
 use mathlib.Core.List.{List, [], _∷_}
 use mathlib.Core.Path.{_≡_}
-use lib.Dec.{ltb, eqb}
+use lib.Dec.{eqb}
 use lib.ListN.{length, take, drop}
 use Rattle.terms.specs.Bytes.{Text, bytes}
 use Rattle.code.specs.Blocks.{Block}
@@ -42,11 +42,6 @@ readAt r s p = r (p .line) (lines (drop (p .place) s))
 unfoldable pub Tells : {A : Type 0} → Text → (A → ℕ → Type 0) → Read → LinesRead A → Type 0
 Tells s P (Read.Failed v) x = x ≡ failed v
 Tells {A} s P (Read.Got n p) x = (a : A) × (x ≡ after a (p .line) (lines (drop (p .place) s))) × Placed s p × P a n
-
--- no byte of a key is 0, which is what stands past the end
-unfoldable pub allPositive : Text → Bool
-allPositive [] = true
-allPositive (b ∷ w) = elim (ltb 0 b) [ true ↦ allPositive w | false ↦ false ]
 
 -- a line with a key, read for its value
 abbrev pub keyed : Text → Reader Text

@@ -9,7 +9,8 @@ use Rattle.model.specs.Bounds.{mostMethods}
 use Rattle.model.specs.InOrder.{LinesRead, _>>=_, numberLine}
 use Rattle.model.specs.Model.{Class}
 use Rattle.model.specs.ModelText.{SoFar, zeroIf, readClass}
-use Rattle.model.specs.Vocabulary.Readings.{Placed, readAt, allPositive, between}
+use Rattle.model.specs.Lines.{plainByte, plainBytes}
+use Rattle.model.specs.Vocabulary.Readings.{Placed, readAt, between}
 use Rattle.model.proofs.Chains.{fromMethods, fromCount, fromRun, fromGiven, fromAttrs, class-chain}
 use Rattle.model.proofs.Onward.{number-stops, number-passed, tells-made}
 use Rattle.model.proofs.Puts.{class-put}
@@ -85,7 +86,7 @@ slice-aggregate-number-line : tie.Need-slice-aggregate-number-line
 slice-aggregate-number-line c = search needs
 
 number-line-requires : tie.Need-number-line-requires
-unfolding allPositive
+unfolding plainByte plainBytes
 number-line-requires c κs = (c .before .before .before .before .pre .1 .0, refl)
 
 enum-known-read : tie.Need-enum-known-read
@@ -103,7 +104,7 @@ slice-aggregate-number-line-2 : tie.Need-slice-aggregate-number-line-2
 slice-aggregate-number-line-2 c = search needs
 
 number-line-requires-2 : tie.Need-number-line-requires-2
-unfolding allPositive
+unfolding plainByte plainBytes
 number-line-requires-2 c κs = (after-index (c .before .before) .1, refl)
 
 enum-known-read-2 : tie.Need-enum-known-read-2
@@ -122,7 +123,7 @@ most-given-requires : tie.Need-most-given-requires
 most-given-requires c κs = search needs
 
 number-line-requires-3 : tie.Need-number-line-requires-3
-unfolding allPositive
+unfolding plainByte plainBytes
 number-line-requires-3 c κs = (after-attrs (c .before .before .before) .1, refl)
 
 enum-known-read-3 : tie.Need-enum-known-read-3
@@ -141,7 +142,7 @@ least-run-requires : tie.Need-least-run-requires
 least-run-requires c κs = search needs
 
 number-line-requires-4 : tie.Need-number-line-requires-4
-unfolding allPositive
+unfolding plainByte plainBytes
 number-line-requires-4 c κs = (after-given (c .before .before .before) .1, refl)
 
 enum-known-read-4 : tie.Need-enum-known-read-4
@@ -157,7 +158,7 @@ slice-aggregate-number-line-5 : tie.Need-slice-aggregate-number-line-5
 slice-aggregate-number-line-5 c = search needs
 
 number-line-requires-5 : tie.Need-number-line-requires-5
-unfolding allPositive
+unfolding plainByte plainBytes
 number-line-requires-5 c κs = (after-run (c .before .before) .1, refl)
 
 enum-known-read-5 : tie.Need-enum-known-read-5

@@ -6,7 +6,8 @@ use denote.Ref.{now}
 use lib.ListN.{length, drop, length-take, length-drop}
 use Rattle.model.specs.InOrder.{right}
 use Rattle.model.specs.ModelText.{codeLine}
-use Rattle.model.specs.Vocabulary.Readings.{Tells, allPositive, soFar}
+use Rattle.model.specs.Lines.{plainByte, plainBytes}
+use Rattle.model.specs.Vocabulary.Readings.{Tells, soFar}
 use Rattle.model.proofs.CodeRows.{taken-wrong, line-taken, line-left}
 use Rattle.model.proofs.CodeValues.{said-refused, said-is}
 use Rattle.model.proofs.KeyLines.{value-failed, value-refused, value-read, value-inside, value-placed}
@@ -23,7 +24,7 @@ slice-aggregate-key-line : tie.Need-slice-aggregate-key-line
 slice-aggregate-key-line c = search needs
 
 key-line-requires : tie.Need-key-line-requires
-unfolding allPositive
+unfolding plainByte plainBytes
 key-line-requires c κs = (c .before .before .before .before .pre .1 .0, refl)
 
 enum-known-verdict : tie.Need-enum-known-verdict

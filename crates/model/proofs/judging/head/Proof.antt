@@ -5,7 +5,8 @@ use denote.Ref.{now}
 use Rattle.terms.specs.Bytes.{bytes}
 use Rattle.model.specs.Bounds.{mostClasses}
 use Rattle.model.specs.InOrder.{numberLine}
-use Rattle.model.specs.Vocabulary.Readings.{Placed, begin, readAt, Tells, allPositive, readHead}
+use Rattle.model.specs.Lines.{plainByte, plainBytes}
+use Rattle.model.specs.Vocabulary.Readings.{Placed, begin, readAt, Tells, readHead}
 use Rattle.model.proofs.Chains.{head-chain}
 use Rattle.model.proofs.Onward.{then-failed, told-failed, number-passed}
 use borrow.Author.Needs.{needs}
@@ -23,7 +24,7 @@ slice-aggregate-number-line : tie.Need-slice-aggregate-number-line
 slice-aggregate-number-line c = search needs
 
 number-line-requires : tie.Need-number-line-requires
-unfolding allPositive
+unfolding plainByte plainBytes
 number-line-requires c κs = ((omega arith, omega arith, c .before .before .pre), refl)
 
 enum-known-verdict : tie.Need-enum-known-verdict
@@ -36,7 +37,7 @@ slice-aggregate-number-line-2 : tie.Need-slice-aggregate-number-line-2
 slice-aggregate-number-line-2 c = search needs
 
 number-line-requires-2 : tie.Need-number-line-requires-2
-unfolding allPositive
+unfolding plainByte plainBytes
 number-line-requires-2 c κs = (passed (c .before .before) .1, refl)
 
 returns : tie.Need-returns

@@ -10,7 +10,8 @@ use Rattle.model.specs.Bounds.{mostParams, mostLines, allLines}
 use Rattle.model.specs.InOrder.{LinesRead, _>>=_, numberLine}
 use Rattle.model.specs.Model.{Method}
 use Rattle.model.specs.ModelText.{SoFar, linesBegun, zeroIf, readMethod}
-use Rattle.model.specs.Vocabulary.Readings.{Placed, readAt, allPositive, between}
+use Rattle.model.specs.Lines.{plainByte, plainBytes}
+use Rattle.model.specs.Vocabulary.Readings.{Placed, readAt, between}
 use Rattle.model.proofs.Chains.{fromCode, fromLines, fromLocals, fromParams, method-chain}
 use Rattle.model.proofs.Onward.{number-stops, number-passed, tells-made}
 use Rattle.model.proofs.Puts.{method-put}
@@ -78,7 +79,7 @@ slice-aggregate-number-line : tie.Need-slice-aggregate-number-line
 slice-aggregate-number-line c = search needs
 
 number-line-requires : tie.Need-number-line-requires
-unfolding allPositive
+unfolding plainByte plainBytes
 number-line-requires c κs = (c .before .before .before .before .pre .1 .0, refl)
 
 enum-known-read : tie.Need-enum-known-read
@@ -99,7 +100,7 @@ most-params-requires : tie.Need-most-params-requires
 most-params-requires c κs = search needs
 
 number-line-requires-2 : tie.Need-number-line-requires-2
-unfolding allPositive
+unfolding plainByte plainBytes
 number-line-requires-2 c κs = (after-index (c .before .before .before) .1, refl)
 
 enum-known-read-2 : tie.Need-enum-known-read-2
@@ -115,7 +116,7 @@ slice-aggregate-number-line-3 : tie.Need-slice-aggregate-number-line-3
 slice-aggregate-number-line-3 c = search needs
 
 number-line-requires-3 : tie.Need-number-line-requires-3
-unfolding allPositive
+unfolding plainByte plainBytes
 number-line-requires-3 c κs = (after-params (c .before .before) .1, refl)
 
 enum-known-read-3 : tie.Need-enum-known-read-3
@@ -134,7 +135,7 @@ most-lines-requires : tie.Need-most-lines-requires
 most-lines-requires c κs = c .before .before .before .before .before .before .before .before .before .before .before .before .before .before .before .before .before .before .before .before .pre .1 .1 .3
 
 number-line-requires-4 : tie.Need-number-line-requires-4
-unfolding allPositive
+unfolding plainByte plainBytes
 number-line-requires-4 c κs = (after-locals (c .before .before .before) .1, refl)
 
 enum-known-read-4 : tie.Need-enum-known-read-4
