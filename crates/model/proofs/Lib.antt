@@ -1,5 +1,6 @@
 -- What the proofs of this crate and of those above it cite.
 mod Cases
+mod ReaderWalks
 mod TextBounds
 pub mod AcceptedAt
 pub mod AcceptedJudged

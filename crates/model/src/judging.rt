@@ -8,7 +8,7 @@ use crate::bounds;
 use crate::classes;
 use crate::creations;
 use crate::key_lines;
-use crate::lines;
+use crate::reader;
 use crate::table;
 use whole::refusals;
 ghost use mathlib.Core.Path.{_≡_};
@@ -53,7 +53,7 @@ fn ended(text: &[u8], table: &[u32], at: At, classes: u32, total: u32) -> Verdic
     if place == text.len() {
         return creations::counts_judged(table, classes, total);
     }
-    match lines::sound_line(text, place) {
+    match reader::line_at(text, place) {
         LineFound::Broken => Verdict {
             number: refusals::BROKEN_LINE,
             line,

@@ -4,17 +4,15 @@ use crate::Keyed;
 use crate::LineFound;
 use crate::Read;
 use crate::Verdict;
-use crate::lines;
+use crate::reader;
 use terms::ReadNumber;
 use terms::ReadWord;
 use terms::leaves;
 use whole::refusals;
 ghost use mathlib.Core.Bool.{true};
 ghost use mathlib.Core.Path.{_≡_};
-ghost use Prim.Native.Nat.{ℕ, _≤_};
-ghost use lib.ListN.{length};
+ghost use Prim.Native.Nat.{ℕ};
 ghost use Rattle.terms.specs.Parsed.{bad};
-ghost use Rattle.terms.specs.Vocabulary.Answers as Answers;
 ghost use Rattle.model.specs.InOrder as InOrder;
 ghost use Rattle.model.specs.Lines as Lines;
 ghost use Rattle.model.specs.Vocabulary.NumberLines as NumberLines;
@@ -34,7 +32,7 @@ pub fn key_line(text: &[u8], at: At, key: &[u8]) -> Keyed
             line,
         });
     }
-    let LineFound::Sound(end) = lines::sound_line(text, place) else {
+    let LineFound::Sound(end) = reader::line_at(text, place) else {
         return Keyed::Failed(Verdict {
             number: refusals::BROKEN_LINE,
             line,
@@ -49,33 +47,7 @@ pub fn key_line(text: &[u8], at: At, key: &[u8]) -> Keyed
     }
 }
 
-// A line with a number in its range, read as it should stand: its key, a decimal, and the LF behind it.
-fn straight(text: &[u8], at: usize, key: &[u8], lowest: u32, highest: u32) -> ReadNumber
-    requires { ⌜ (at ≤ length (now text)) × (length (now text) ≤ Lines.longestText) ⌝ }
-    requires { ⌜ Lines.plainBytes (now key) ≡ true ⌝ }
-    ensures { λ r. ⌜ r ≡ Answers.asNumber (NumberLines.straight (now (key .entry)) lowest highest (now (text .entry)) at) ⌝ }
-{
-    match leaves::word(key, text, at) {
-        ReadWord::Bad(p) => ReadNumber::Bad(p),
-        ReadWord::Got(value) => match leaves::decimal(highest, text, value) {
-            ReadNumber::Bad(p) => ReadNumber::Bad(p),
-            ReadNumber::Got(end, n) => {
-                if leaves::byte_at(text, end) != b'\n' {
-                    return ReadNumber::Bad(end);
-                }
-                if n < lowest {
-                    return ReadNumber::Bad(end);
-                }
-                if end > at + lines::LONGEST_LINE {
-                    return ReadNumber::Bad(end);
-                }
-                ReadNumber::Got(end + 1, n)
-            }
-        },
-    }
-}
-
-// What is wrong with a line that does not stand so.
+// What is wrong with a line that does not stand as one with a number should.
 fn no_number(text: &[u8], at: At, key: &[u8]) -> Verdict
     requires { ⌜ Readings.Placed (now text) at ⌝ }
     requires { ⌜ Lines.plainBytes (now key) ≡ true ⌝ }
@@ -98,7 +70,7 @@ pub fn number_line(text: &[u8], at: At, key: &[u8], lowest: u32, highest: u32) -
     ensures { λ r. ⌜ Readings.Tells (now (text .entry)) (Readings.InRange lowest highest) r (Readings.readAt (InOrder.numberLine (now (key .entry)) lowest highest) (now (text .entry)) at) ⌝ }
 {
     let line = at.line;
-    match straight(text, at.place, key, lowest, highest) {
+    match reader::number_at(text, at.place, key, lowest, highest) {
         ReadNumber::Bad(_) => Read::Failed(no_number(text, at, key)),
         ReadNumber::Got(next, n) => Read::Got(
             n,

@@ -8,6 +8,8 @@ pub mod judging;
 pub mod key_lines;
 pub mod lines;
 pub mod methods;
+pub mod numbers;
+pub mod reader;
 pub mod table;
 
 // A number given back, with the line of the text that it names: 0 where it names none.

@@ -19,8 +19,8 @@ returns c = λ m told l.
     let a = c .before .before .before .before .args in
     c .counts-judged .ensures m told l ∙ sym (ap verdictOf (left-none (now (a .text)) (m, between (now (a .table)) (a .total)) (a .at) (omega arith)))
 
-sound-line-requires : tie.Need-sound-line-requires
-sound-line-requires c κs = search needs
+line-at-requires : tie.Need-line-at-requires
+line-at-requires c κs = search needs
 
 enum-told : tie.Need-enum-told
 enum-told c = search needs
@@ -31,13 +31,13 @@ enum-told-2 c = search needs
 returns-2 : tie.Need-returns-2
 returns-2 c = λ m told l.
     let a = c .before .before .before .before .before .before .args in
-    let f = broken-found _ _ (sym (c .before .before .sound-line .ensures) ∙ c .enum-told .given .1) (omega arith) in
+    let f = broken-found _ _ (sym (c .before .before .line-at .ensures) ∙ c .enum-told .given .1) (omega arith) in
     sym (ap verdictOf (left-broken (now (a .text)) (m, between (now (a .table)) (a .total)) (a .at) f) ∙ verdict-refusal _)
 
 returns-3 : tie.Need-returns-3
 returns-3 c = λ m told l.
     let a = c .before .before .before .before .before .before .args in
-    let f = sound-found _ _ _ (sym (c .before .before .sound-line .ensures) ∙ c .enum-told2 .given .1) in
+    let f = sound-found _ _ _ (sym (c .before .before .line-at .ensures) ∙ c .enum-told2 .given .1) in
     sym (ap verdictOf (left-sound (now (a .text)) (m, between (now (a .table)) (a .total)) (a .at) _ f) ∙ verdict-refusal _)
 
 pub ended-spec : {M : Type 1} → statement M
@@ -46,7 +46,7 @@ ended-spec =
     (tie.spec
     counts-judged-requires
     returns
-    sound-line-requires
+    line-at-requires
     enum-told
     enum-told-2
     returns-2

@@ -15,7 +15,7 @@ use Rattle.model.proofs.key_lines.key_line.Tie as tie
 
 -- the line that begins here is sound, and where it ends
 found : (c : tie.After-end) → (let a = c .before .before .before .before .before .before .args in SoundLine (now (a .text)) (a .at .place) (c .end .given .0 .0))
-found c = sound-found _ _ _ (sym (c .before .before .sound-line .ensures) ∙ c .end .given .1)
+found c = sound-found _ _ _ (sym (c .before .before .line-at .ensures) ∙ c .end .given .1)
 
 -- its key, which ends within it
 keyed : (c : tie.After-p) → (let l = c .before .before .before .before .before in let a = l .before .before .before .before .before .before .args in
@@ -32,8 +32,8 @@ returns : tie.Need-returns
 unfolding KeyTold
 returns c = let a = c .before .before .before .args in key-ended (now (a .text)) (now (a .key)) (a .at) (omega arith)
 
-sound-line-requires : tie.Need-sound-line-requires
-sound-line-requires c κs = search needs
+line-at-requires : tie.Need-line-at-requires
+line-at-requires c κs = search needs
 
 enum-known-end : tie.Need-enum-known-end
 enum-known-end c = search needs
@@ -43,7 +43,7 @@ enum-told c = search needs
 
 returns-2 : tie.Need-returns-2
 unfolding KeyTold
-returns-2 c = key-broken _ _ _ (broken-found _ _ (sym (c .before .before .sound-line .ensures) ∙ c .enum-told .given .1) (omega arith))
+returns-2 c = key-broken _ _ _ (broken-found _ _ (sym (c .before .before .line-at .ensures) ∙ c .enum-told .given .1) (omega arith))
 
 sub-word : tie.Need-sub-word
 sub-word c = let l = found (c .before) in search needs
@@ -78,7 +78,7 @@ key-line-spec =
     tie.close
     (tie.spec
     returns
-    sound-line-requires
+    line-at-requires
     enum-known-end
     enum-told
     returns-2

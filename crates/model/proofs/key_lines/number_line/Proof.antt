@@ -8,8 +8,8 @@ use borrow.Author.Needs.{needs}
 use Rattle.model.proofs.key_lines.number_line.Statement.{statement}
 use Rattle.model.proofs.key_lines.number_line.Tie as tie
 
-straight-requires : tie.Need-straight-requires
-straight-requires c κs = search needs
+number-at-requires : tie.Need-number-at-requires
+number-at-requires c κs = search needs
 
 enum-told : tie.Need-enum-told
 enum-told c = search needs
@@ -25,7 +25,7 @@ add-t12 c = search needs
 
 returns : tie.Need-returns
 unfolding Tells
-returns c = c .no-number .ensures _ _ _ (number-bad _ _ (sym (c .before .before .before .straight .ensures) ∙ c .before .enum-told .given .1))
+returns c = c .no-number .ensures _ _ _ (number-bad _ _ (sym (c .before .before .before .number-at .ensures) ∙ c .before .enum-told .given .1))
 
 returns-2 : tie.Need-returns-2
 unfolding Tells
@@ -33,7 +33,7 @@ returns-2 c =
     let l = c .before in
     let p = l .before .before .before .before .before .pre in
     let at = l .before .before .before .before .before .args .at in
-    let g = number-got _ _ _ (sym (l .before .before .straight .ensures) ∙ l .next .given .1) in
+    let g = number-got _ _ _ (sym (l .before .before .number-at .ensures) ∙ l .next .given .1) in
     let h = behind _ _ _ _ at (p .1) _ _ g in
     let i = in-range _ _ _ _ at (p .1) _ _ g in
     (_, reads _ _ _ _ at (p .1) _ _ g (p .0 .1), (h .1, omega (arith, h, p .0), p .0 .2), (refl, i .0, i .1))
@@ -42,7 +42,7 @@ pub number-line-spec : {M : Type 1} → statement M
 number-line-spec =
     tie.close
     (tie.spec
-    straight-requires
+    number-at-requires
     enum-told
     no-number-requires
     enum-known-next

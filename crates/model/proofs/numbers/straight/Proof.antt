@@ -1,4 +1,4 @@
--- `model::key_lines::straight` meets its contract. Assumes nothing.
+-- `model::numbers::straight` meets its contract. Assumes nothing.
 use mathlib.Core.Path.{_≡_, sym, ap, _∙_}
 use denote.Ref.{now}
 use Rattle.terms.specs.Bytes.{byteAt}
@@ -8,8 +8,8 @@ use Rattle.terms.specs.Vocabulary.Answers.{asNumber}
 use Rattle.terms.proofs.Answers.{word-got, word-bad, number-got, number-bad}
 use Rattle.model.proofs.Straight.{straight-no-key, straight-no-number, straight-unfed, straight-below, straight-long, straight-stands}
 use borrow.Author.Needs.{needs}
-use Rattle.model.proofs.key_lines.straight.Statement.{statement}
-use Rattle.model.proofs.key_lines.straight.Tie as tie
+use Rattle.model.proofs.numbers.straight.Statement.{statement}
+use Rattle.model.proofs.numbers.straight.Tie as tie
 
 -- the key that was read, and the decimal behind it
 keyed : (c : tie.After-value) → (let a = c .before .before .before .before .before .args in word (now (a .key)) (now (a .text)) (a .at) ≡ got (c .value .given .0 .0) tt)
