@@ -13,8 +13,8 @@ use Rattle.model.proofs.Session.{verdict, session-texts, session-with, 
 with-attrs : Text → Text
 with-attrs n = bytes "creol=1\nclasses=2\nclass=0\nattrs=" ++ n ++ bytes "\ngiven=0\n"
 
-table : List (Row (List ℕ))
-table =
+lines-table : List (Row (List ℕ))
+lines-table =
     (verdict session is 0 ∷ 0 ∷ [])
     ∷ (verdict [] is 3 ∷ 1 ∷ [])
     -- lines left over, whole or broken
@@ -34,8 +34,16 @@ table =
     ∷ (verdict (with-attrs (bytes "2 ")) is 4 ∷ 4 ∷ [])
     ∷ (verdict (with-attrs (bytes "")) is 4 ∷ 4 ∷ [])
     ∷ (verdict (with-attrs (bytes "8")) is 3 ∷ 6 ∷ [])
+    ∷ []
+
+lines-hold : Holds lines-table
+unfolding model-open session-texts lines-table with-attrs
+lines-hold = (refl, (refl, (refl, (refl, (refl, (refl, (refl, (refl, (refl, (refl, (refl, (refl, (refl, (refl, (refl, tt)))))))))))))))
+
+code-table : List (Row (List ℕ))
+code-table =
     -- counts: the 64
-    ∷ (verdict (session-with (bytes "lines=65\n")) is 4 ∷ 11 ∷ [])
+    (verdict (session-with (bytes "lines=65\n")) is 4 ∷ 11 ∷ [])
     -- `1<2<3` is 5
     ∷ (verdict (storing (bytes "1<2<3")) is 5 ∷ 12 ∷ [])
     -- blocks: a second else, an od for an if, what is still open at the last line, a last line that is no return
@@ -49,63 +57,9 @@ table =
     ∷ (verdict (session-with (bytes "lines=2\ncode=new a0 2\ncode=skip\n")) is 5 ∷ 12 ∷ [])
     ∷ []
 
-holds : Holds table
-unfolding model-open session-texts table with-attrs
-holds = (
-  refl,
-  (
-    refl,
-    (
-      refl,
-      (
-        refl,
-        (
-          refl,
-          (
-            refl,
-            (
-              refl,
-              (
-                refl,
-                (
-                  refl,
-                  (
-                    refl,
-                    (
-                      refl,
-                      (
-                        refl,
-                        (
-                          refl,
-                          (
-                            refl,
-                            (
-                              refl,
-                              (
-                                refl,
-                                (
-                                  refl,
-                                  (
-                                    refl,
-                                    (refl, (refl, (refl, (refl, (refl, (refl, tt)))))),
-                                  ),
-                                ),
-                              ),
-                            ),
-                          ),
-                        ),
-                      ),
-                    ),
-                  ),
-                ),
-              ),
-            ),
-          ),
-        ),
-      ),
-    ),
-  ),
-)
+code-holds : Holds code-table
+unfolding model-open session-texts code-table
+code-holds = (refl, (refl, (refl, (refl, (refl, (refl, (refl, (refl, (refl, tt)))))))))
 
 -- a line so many times
 again : ℕ → Text → Text

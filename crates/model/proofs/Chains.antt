@@ -7,11 +7,10 @@ use lib.Dec.{eqb}
 use Rattle.layout.specs.Layout.{mostAttributes, mostLocals}
 use Rattle.terms.specs.Bytes.{bytes}
 use Rattle.model.specs.Bounds.{edition, mostClasses, mostMethods, mostParams, mostLines, allLines}
-use Rattle.model.specs.InOrder.{LinesRead, failed, after, Reader, done, _>>=_, numberLine, each}
+use Rattle.model.specs.InOrder.{Reader, done, _>>=_, numberLine, each}
 use Rattle.model.specs.Lines.{Line}
 use Rattle.model.specs.Model.{Method, Class, Model}
 use Rattle.model.specs.ModelText.{SoFar, linesBegun, zeroIf, codeLine, readMethod, readClass, readModel}
-use Rattle.model.specs.Vocabulary.Readings.{readHead}
 
 -- of a method, from its code back to its `params=`
 module _ (classes attrs : ℕ) (so : SoFar) where
@@ -57,26 +56,13 @@ module _ (classes k : ℕ) (so : SoFar) where
   unfolding readClass
   class-chain at ls = refl
 
--- of the whole text: the first two lines, and then the classes
-pub head-chain : (at : ℕ) (ls : List Line) → readHead at ls ≡ (numberLine (bytes "creol=") edition edition >>= (λ _. numberLine (bytes "classes=") 1 mostClasses)) at ls
-unfolding readHead
-head-chain at ls = refl
-
+-- of the whole text, from its classes back to its `classes=`
 abbrev pub fromClasses : ℕ → Reader (Model × SoFar)
 fromClasses count = each count 0 (record { total = 0; creations = []; blocks = [] }) (readClass count)
 
-pub model-chain : (at : ℕ) (ls : List Line) → readModel at ls ≡ (readHead >>= fromClasses) at ls
-unfolding readModel readHead _>>=_
-model-chain at ls = go (numberLine (bytes "creol=") edition edition at ls)
-  where
-    classes : Reader ℕ
-    classes = numberLine (bytes "classes=") 1 mostClasses
+abbrev pub fromEdition : ℕ → Reader (Model × SoFar)
+fromEdition edition = numberLine (bytes "classes=") 1 mostClasses >>= fromClasses
 
-    go : (x : LinesRead ℕ)
-        → (let all : LinesRead (Model × SoFar) =
-        elim x [ failed v ↦ failed v | after a n l ↦ elim (classes n l) [ failed v ↦ failed v | after count m k ↦ fromClasses count m k ] ] in
-        let two : LinesRead ℕ = elim x [ failed v ↦ failed v | after a n l ↦ classes n l ] in
-        let then : LinesRead (Model × SoFar) = elim two [ failed v ↦ failed v | after count m k ↦ fromClasses count m k ] in
-        all ≡ then)
-    go (failed v) = refl
-    go (after a n l) = refl
+pub model-chain : (at : ℕ) (ls : List Line) → readModel at ls ≡ (numberLine (bytes "creol=") edition edition >>= fromEdition) at ls
+unfolding readModel
+model-chain at ls = refl

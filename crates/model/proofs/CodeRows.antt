@@ -7,7 +7,7 @@ use mathlib.Core.Path.{_≡_, refl, sym, ap, subst, _∙_}
 use native.Mathlib.Omega.{arith}
 use lib.Dec.{eqb}
 use lib.ListN.{length, set, take, drop, length-take, length-drop}
-use lib.Seq.{getD-set-same}
+use lib.Seq.{getD-set-same, getD-set-other}
 use Rattle.terms.specs.Bytes.{Text}
 use Rattle.terms.specs.Parsed.{Parsed, got, bad}
 use Rattle.terms.specs.Trees.{trees, guardTrees}
@@ -26,7 +26,7 @@ use Rattle.model.specs.Vocabulary.Readings.{soFar, LineLeft}
 use Rattle.model.specs.Vocabulary.Standing.{stood, limitsOf, codeTaken, CodeIs}
 use Rattle.model.specs.Vocabulary.Table.{Table, Sized, put, rowAt, codeRow, Same}
 use Rattle.model.proofs.CreationRows.{creation-told, in-more}
-use Rattle.model.proofs.Framing.{same-line, news-kept}
+use Rattle.model.proofs.Framing.{same-put, news-kept}
 use Rattle.model.proofs.TableRows.{row-own}
 
 -- what is carried on from a statement, with the blocks that are open after it
@@ -94,7 +94,9 @@ module _ (s : Text) (t : Table) (x : List ℕ) (sized : Sized t x) (m : MethodHe
   y = set x line (d .shape)
 
   rows-same : Same t x u y 16 128 line
-  rows-same = same-line t x row 16 128 line line (d .shape) room (omega arith) (omega arith) (omega arith)
+  rows-same =
+      same-put t x y (codeRow line) row (λ i h e. omega arith) (λ i j h e. omega arith) (λ i h e. omega arith)
+      (λ i h. getD-set-other x line i (d .shape) 0 (λ e. omega arith))
 
   -- the row leads to its value, and tells its `new`
   line-row : rowAt u (codeRow line) ≡ row

@@ -30,41 +30,41 @@ use Rattle.model.specs.ModelText.{SoFar, creationsOf, mayStand, standing
 use Rattle.model.proofs.Bringing.{Brings, TakenAs, brings-key, Along, InTurn}
 
 -- a code line read, where so many stand in its method: what it tells by itself, and how it changes what is carried
-pub record LineRead (lim : Limits) (classes count i : ℕ) (so : SoFar) (c : Code) (t : SoFar) : Type 0 where
+pub record LineRead (last : ℕ) (lim : Limits) (classes count i : ℕ) (so : SoFar) (c : Code) (t : SoFar) : Type 0 where
   pub within : CodeWithin lim classes c
   pub through : through (shapeOf c) (so .blocks) ≡ some (t .blocks)
   pub stands : mayStand (eqb (i + 1) count) c (t .blocks) ≡ true
   pub total : t .total ≡ so .total
   pub at : ℕ
+  pub line : at ≤ last
   pub creations : t .creations ≡ so .creations ++ creationsOf at c
 
-module _ (lim : Limits) (classes count : ℕ) where
-  module _ (i : ℕ) (so : SoFar) where
-    -- a statement that may stand at its line
-    taken-standing : (at : ℕ) (c : Code) → CodeWithin lim classes c → (o : Option (List Block)) → through (shapeOf c) (so .blocks) ≡ o
-        → TakenAs (Along (LineRead lim classes count i so)) (standing at (eqb (i + 1) count) so c o)
-    unfolding standing
-    taken-standing at c w none e = tt
-    taken-standing at c w (some bs) e = go (mayStand (eqb (i + 1) count) c bs) refl
-      where
-        go : (b : Bool) → mayStand (eqb (i + 1) count) c bs ≡ b → TakenAs (Along (LineRead lim classes count i so)) (elim b [
-          | false ↦ wrong wrongBlocks
-          | true ↦ right (c, record { total = so .total; creations = so .creations ++ creationsOf at c; blocks = bs })
-        ])
-        go false f = tt
-        go true f = record { within = w; through = e; stands = f; total = refl; at = at; creations = refl }
+module _ (last : ℕ) (lim : Limits) (classes count i : ℕ) (so : SoFar) where
+  -- a statement that may stand at its line
+  taken-standing : (at : ℕ) (c : Code) → at ≤ last → CodeWithin lim classes c → (o : Option (List Block)) → through (shapeOf c) (so .blocks) ≡ o
+      → TakenAs last (Along (LineRead last lim classes count i so)) (standing at (eqb (i + 1) count) so c o)
+  unfolding standing TakenAs
+  taken-standing at c n w none e = (omega arith, omega arith)
+  taken-standing at c n w (some bs) e = go (mayStand (eqb (i + 1) count) c bs) refl
+    where
+      go : (b : Bool) → mayStand (eqb (i + 1) count) c bs ≡ b → TakenAs last (Along (LineRead last lim classes count i so)) (elim b [
+        | false ↦ wrong wrongBlocks
+        | true ↦ right (c, record { total = so .total; creations = so .creations ++ creationsOf at c; blocks = bs })
+      ])
+      go false f = (omega arith, omega arith)
+      go true f = record { within = w; through = e; stands = f; total = refl; at = at; line = n; creations = refl }
 
-    -- a code line, where there is a class
-    pub brings-code : 0 < classes → Brings (Along (LineRead lim classes count i so)) (codeLine lim classes count i so)
-    unfolding codeLine
-    brings-code some-class = brings-key _ (bytes "code=") _ (λ at v. go at (statement trees guardTrees lim classes v) (gives-statement lim classes v some-class))
-      where
-        go : (at : ℕ) (p : Parsed Code) → Gives (CodeWithin lim classes) p → TakenAs (Along (LineRead lim classes count i so)) (elim p [
-          | bad p ↦ wrong wrongCode
-          | got p c ↦ standing at (eqb (i + 1) count) so c (through (shapeOf c) (so .blocks))
-        ])
-        go at (bad p) g = tt
-        go at (got p c) g = taken-standing at c g (through (shapeOf c) (so .blocks)) refl
+  -- a code line, where there is a class
+  pub brings-code : 0 < classes → Brings last (Along (LineRead last lim classes count i so)) (codeLine lim classes count i so)
+  unfolding codeLine TakenAs
+  brings-code some-class = brings-key last _ (bytes "code=") _ (λ at v n. go at n (statement trees guardTrees lim classes v) (gives-statement lim classes v some-class))
+    where
+      go : (at : ℕ) → at ≤ last → (p : Parsed Code) → Gives (CodeWithin lim classes) p → TakenAs last (Along (LineRead last lim classes count i so)) (elim p [
+        | bad p ↦ wrong wrongCode
+        | got p c ↦ standing at (eqb (i + 1) count) so c (through (shapeOf c) (so .blocks))
+      ])
+      go at n (bad p) g = (omega arith, omega arith)
+      go at n (got p c) g = taken-standing at c n g (through (shapeOf c) (so .blocks)) refl
 
 -- a list of no items
 no-items : {A : Type 0} (xs : List A) → length xs ≡ 0 → xs ≡ []
@@ -99,10 +99,10 @@ may-last c bs e =
     let outside = both-right (isShape Shape.Return (shapeOf c)) (eqb (length bs) 0) e in
     (no-items bs (eqb-true _ _ outside), is-return (shapeOf c) (both-left (isShape Shape.Return (shapeOf c)) _ e))
 
-module _ (lim : Limits) (classes count : ℕ) where
+module _ (last : ℕ) (lim : Limits) (classes count : ℕ) where
   -- the lines of a method, or some of them
   abbrev Lines : ℕ → SoFar → List Code → SoFar → Type 0
-  Lines = InTurn (LineRead lim classes count)
+  Lines = InTurn (LineRead last lim classes count)
 
   -- lines go through the blocks that are open
   lines-through : (i : ℕ) (so : SoFar) (cs : List Code) (t : SoFar) → Lines i so cs t → throughAll (map shapeOf cs) (so .blocks) ≡ some (t .blocks)

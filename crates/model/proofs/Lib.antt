@@ -4,7 +4,6 @@ mod ReaderWalks
 mod TextBounds
 pub mod AcceptedAt
 pub mod AcceptedJudged
-pub mod AcceptedText
 pub mod Bringing
 pub mod Chains
 pub mod CodeRows

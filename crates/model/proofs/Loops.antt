@@ -2,11 +2,11 @@
 use Prim.Native.Nat.{ℕ, _+_, _-_, _≤_, _<_}
 use mathlib.Core.Bool.{true}
 use mathlib.Core.List.{List, [], _∷_, _++_}
-use mathlib.Core.Path.{_≡_, refl, sym, ap, subst, _∙_}
+use mathlib.Core.Path.{_≡_, refl, ap, subst, _∙_}
 use native.Mathlib.Nat.{add-zero}
 use native.Mathlib.Omega.{arith}
 use borrow.Author.Tests.{eq-eqb}
-use lib.ListN.{length}
+use lib.ListN.{length, drop}
 use Rattle.terms.specs.Bytes.{Text}
 use Rattle.code.specs.Blocks.{Block}
 use Rattle.code.specs.Statements.{Code}
@@ -17,180 +17,126 @@ use Rattle.model.specs.declared.MethodHead.{MethodHead}
 use Rattle.model.specs.declared.Read.{Read}
 use Rattle.model.specs.declared.Read.the-variants as Read
 use Rattle.model.specs.declared.Verdict.{Verdict}
-use Rattle.model.specs.InOrder.{LinesRead, failed, Reader, each}
+use Rattle.model.specs.InOrder.{failed, after, Reader, each}
+use Rattle.model.specs.Lines.{lines}
 use Rattle.model.specs.ModelText.{SoFar, mayStand, codeLine}
 use Rattle.model.specs.Vocabulary.Belonging.{LineTold}
 use Rattle.model.specs.Vocabulary.Readings.{Placed, readAt, Tells, soFar, between, LineLeft, Left, CodeLeft}
 use Rattle.model.specs.Vocabulary.Standing.{limitsOf}
 use Rattle.model.specs.Vocabulary.Table.{Table, Rows, Same}
 use Rattle.model.proofs.CodeTold.{may-depth, may-last}
-use Rattle.model.proofs.Framing.{same-self, same-then, lines-kept}
-use Rattle.model.proofs.Onward.{told-failed, told-got, onto, each-begun, each-ended, each-failed, each-onward}
-use Rattle.model.proofs.TableRows.{append-length, rows-append}
+use Rattle.model.proofs.Framing.{same-self, same-then, line-kept}
+use Rattle.model.proofs.Onward.{told-got, onto, each-begun, each-ended, each-failed, each-onward}
+use Rattle.model.proofs.TableRows.{append-length, rows-more}
 
--- reading all code lines of a method, and the rest of them
-abbrev codeLines : Text → Table → MethodHead → At → LinesRead (List Code × SoFar)
-codeLines s t m p = readAt (each (m .count) 0 (soFar t (m .first) (m .first + m .count) []) (codeLine (limitsOf m) (m .classes) (m .count))) s p
-
-abbrev linesLeft : Text → Table → MethodHead → ℕ → List Block → At → LinesRead (List Code × SoFar)
-linesLeft s u m i bs p =
-    readAt (each (m .count - i) i (soFar u (m .first + i) (m .first + m .count) bs) (codeLine (limitsOf m) (m .classes) (m .count))) s p
-
--- so many code lines of a method are passed, from a table with its shapes to another
-pub record LinesPassed (s : Text) (t : Table) (x : List ℕ) (u : Table) (y : List ℕ) (m : MethodHead) (from here : At) (blocks i : ℕ) : Type 0 where
-  pub code : List Code
-  pub left : List Block
-  pub size : length code ≡ i
-  pub rest : codeLines s t m from ≡ onto code (linesLeft s u m i left here)
-  pub number : blocks ≡ packedBlocks left
-  pub few : blocks < 65536
-  pub ends : i ≡ m .count → left ≡ []
-  pub within : i ≤ m .count
+-- so many of a thing are passed, from a place to another: what is left to read, with what is carried, and what is held of those passed
+pub record Passed {A : Type 0} (s : Text) (one : ℕ → SoFar → Reader (A × SoFar)) (count : ℕ) (begun : SoFar) (from here : At) (i : ℕ) (so : SoFar)
+    (Held : List A → Type 0) : Type 0 where
+  pub items : List A
+  pub rest : readAt (each count 0 begun one) s from ≡ onto items (readAt (each (count - i) i so one) s here)
+  pub within : i ≤ count
   pub placed : Placed s here
-  pub kept : Same t x u y 16 128 (m .first)
-  pub told : Rows (LineTold s (m .classes) u y (limitsOf m)) (m .first) code
+  pub held : Held items
 
 -- none yet
-pub lines-begun : (s : Text) (t : Table) (x : List ℕ) (m : MethodHead) (p : At) → 0 < m .count → Placed s p → LinesPassed s t x t x m p p 0 0
-unfolding packedBlocks Rows
-lines-begun s t x m p h placed =
-    let one = codeLine (limitsOf m) (m .classes) (m .count) in
-    let total = m .first + m .count in
-    record {
-      code = [];
-      left = [];
-      size = refl;
-      rest = each-begun one (m .count) _ _ _ ∙ ap (λ f. onto [] (readAt (each (m .count - 0) 0 (soFar t f total []) one) s p)) (sym (add-zero (m .first)));
-      number = refl;
-      few = omega arith;
-      ends = λ e. refl;
-      within = omega arith;
-      placed = placed;
-      kept = same-self t x 16 128 (m .first);
-      told = tt;
-    }
+pub passed-none : {A : Type 0} {s : Text} {one : ℕ → SoFar → Reader (A × SoFar)} {count : ℕ} {so : SoFar} {from : At} {Held : List A → Type 0}
+    → Placed s from → Held [] → Passed s one count so from from 0 so Held
+passed-none {one = one} {count} placed held = record { items = []; rest = each-begun one count _ _ _; within = omega arith; placed = placed; held = held }
 
-module _ (s : Text) (t : Table) (x : List ℕ) (u : Table) (y : List ℕ) (m : MethodHead) (from here : At) (blocks i : ℕ)
-    (p : LinesPassed s t x u y m from here blocks i) where
-  -- the next one, by what the code gives of it
-  module _ (v : Table) (z : List ℕ) (more : i < m .count) (r : Read)
-      (told : Tells s (LineLeft s u y v z m i (m .first + m .count)) r
-      (readAt (codeLine (limitsOf m) (m .classes) (m .count) i (soFar u (m .first + i) (m .first + m .count) (p .left))) s here)) where
-    pub lines-stopped : (w : Verdict) → r ≡ Read.Failed w → codeLines s t m from ≡ failed w
-    lines-stopped w e = p .rest ∙ each-failed _ _ _ _ _ _ _ more w (told-failed s _ r _ told w e)
+module _ {A : Type 0} {s : Text} {one : ℕ → SoFar → Reader (A × SoFar)} {count : ℕ} {begun : SoFar} {from here : At} {i : ℕ} {so : SoFar} {Held : List A → Type 0}
+    (p : Passed s one count begun from here i so Held) where
+  -- the next one is refused
+  pub passed-stopped : i < count → {w : Verdict} → readAt (one i so) s here ≡ failed w → readAt (each count 0 begun one) s from ≡ failed w
+  passed-stopped more e = p .rest ∙ each-failed one _ _ _ _ _ _ more _ e
 
-    pub lines-onward : (n : ℕ) (q : At) → r ≡ Read.Got n q → LinesPassed s t x v z m from q n (i + 1)
-    lines-onward n q e =
-        let g = told-got s _ r _ told n q e in
-        let a = g .0 in
-        let l = g .3 in
-        let one = codeLine (limitsOf m) (m .classes) (m .count) in
-        let total = m .first + m .count in
-        let next : m .first + i + 1 ≡ m .first + (i + 1) = omega arith in
-        let carried : a .1 ≡ soFar v (m .first + (i + 1)) total (l .blocks) = l .so ∙ ap (λ f. soFar v f total (l .blocks)) next in
-        record {
-          code = p .code ++ (a .0 ∷ []);
-          left = l .blocks;
-          size = append-length (p .code) (a .0) ∙ ap (λ k. k + 1) (p .size);
-          rest =
-              p .rest
-              ∙ each-onward one (m .count) i (p .code) _ _ _ more a _ _ (g .1)
-              ∙ ap (λ so. onto (p .code ++ (a .0 ∷ [])) (readAt (each (m .count - (i + 1)) (i + 1) so one) s q)) carried;
-          number = l .number;
-          few = subst (λ k. k < 65536) (sym (l .number)) (packed-fits (l .blocks) (may-depth _ (a .0) (l .blocks) (l .stands)));
-          ends = λ f. may-last (a .0) (l .blocks) (subst (λ b. mayStand b (a .0) (l .blocks) ≡ true) (eq-eqb (i + 1) (m .count) f) (l .stands)) .0;
-          within = omega arith;
-          placed = g .2;
-          kept = same-then (p .kept) (l .kept) (omega arith) (omega arith) (omega arith);
-          told =
-              rows-append _ (m .first) (p .code) (a .0)
-              (lines-kept s (m .classes) (l .kept) (limitsOf m) (m .first) (p .code) (omega (arith, p .size)) (p .told))
-              (subst (λ k. LineTold s (m .classes) v z (limitsOf m) (m .first + k) (a .0)) (sym (p .size)) (l .told));
-        }
+  -- or it is read
+  pub passed-onward : i < count → (a : A × SoFar) (q : At) → readAt (one i so) s here ≡ after a (q .line) (lines (drop (q .place) s)) → Placed s q
+      → {so' : SoFar} → a .1 ≡ so' → {Later : List A → Type 0} → Later (p .items ++ (a .0 ∷ [])) → Passed s one count begun from q (i + 1) so' Later
+  passed-onward more a q e placed carried held = record {
+    items = p .items ++ (a .0 ∷ []);
+    rest =
+        p .rest
+        ∙ each-onward one count i (p .items) _ _ _ more a _ _ e
+        ∙ ap (λ so. onto (p .items ++ (a .0 ∷ [])) (readAt (each (count - (i + 1)) (i + 1) so one) s q)) carried;
+    within = omega arith;
+    placed = placed;
+    held = held;
+  }
 
   -- all of them
-  pub lines-all : m .count ≤ i → m .first + m .count ≤ 512 → Tells s (CodeLeft s t x u y m) (Read.Got (m .first + m .count) here) (codeLines s t m from)
+  pub passed-all : count ≤ i → (Q : List A × SoFar → ℕ → Type 0) (n : ℕ) → (i ≡ count → Q (p .items, so) n) → Tells s Q (Read.Got n here) (readAt (each count 0 begun one) s from)
   unfolding Tells
-  lines-all h room =
-      let all : i ≡ m .count = omega (arith, p .within) in
-      let total = m .first + m .count in (
-        (p .code, soFar u (m .first + i) total (p .left)),
-        p .rest ∙ each-ended _ _ _ _ _ _ _ h,
-        p .placed,
+  passed-all h Q n told = ((p .items, so), p .rest ∙ each-ended one _ _ _ _ _ _ h, p .placed, told (omega (arith, p .within)))
+
+-- what a longer reading leaves, and then another
+pub left-then : {A B C : Type 0} {s : Text} {t u v : Table} {x y z : List ℕ} {P : A → ℕ → Type 0} {Q : B → ℕ → Type 0} {R : C → ℕ → Type 0} {k m i j total all n : ℕ}
+    {a : A × SoFar} {b : B × SoFar} (c : C) → Left s t x u y P k m total a all → Left s u y v z Q i j all b n → k ≤ i → m ≤ j → R c n
+    → Left s t x v z R k m total (c, between v n) n
+left-then c l o f g told = record {
+  so = refl;
+  more = omega (arith, l .more, o .more);
+  most = o .most;
+  kept = same-then (l .kept) (o .kept) (omega arith) f (omega arith) g (omega arith) (l .more);
+  told = told;
+}
+
+-- so many code lines of a method are passed, with so many blocks open
+module _ (s : Text) (t : Table) (x : List ℕ) (m : MethodHead) (from : At) where
+  abbrev one : ℕ → SoFar → Reader (Code × SoFar)
+  one = codeLine (limitsOf m) (m .classes) (m .count)
+
+  abbrev total : ℕ
+  total = m .first + m .count
+
+  pub record LinesPassed (u : Table) (y : List ℕ) (here : At) (blocks i : ℕ) : Type 0 where
+    pub left : List Block
+    pub number : blocks ≡ packedBlocks left
+    pub few : blocks < 65536
+    pub ends : i ≡ m .count → left ≡ []
+    pub passed : Passed s one (m .count) (soFar t (m .first) total []) from here i (soFar u (m .first + i) total left)
+        (λ code. (length code ≡ i) × Same t x u y 16 128 (m .first) × Rows (LineTold s (m .classes) u y (limitsOf m)) (m .first) code)
+
+  -- none yet
+  pub lines-begun : 0 < m .count → Placed s from → LinesPassed t x from 0 0
+  unfolding packedBlocks Rows
+  lines-begun h placed = record {
+    left = [];
+    number = refl;
+    few = omega arith;
+    ends = λ e. refl;
+    passed = rw (add-zero (m .first)) (passed-none placed (refl, same-self t x 16 128 (m .first), tt));
+  }
+
+  module _ (u : Table) (y : List ℕ) (here : At) (blocks i : ℕ) (p : LinesPassed u y here blocks i) where
+    -- one more, by what the code gives of it
+    pub lines-onward : i < m .count → (v : Table) (z : List ℕ) (r : Read) → Tells s (LineLeft s u y v z m i total) r (readAt (one i (soFar u (m .first + i) total (p .left))) s here)
+        → (n : ℕ) (q : At) → r ≡ Read.Got n q → LinesPassed v z q n (i + 1)
+    lines-onward more v z r told n q e =
+        let g = told-got s _ r _ told n q e in
+        let c = g .0 .0 in
+        let l = g .3 in
+        let next : m .first + i + 1 ≡ m .first + (i + 1) = omega arith in
+        let h = p .passed .held in
+        record {
+          left = l .blocks;
+          number = l .number;
+          few = rw (l .number) (packed-fits (l .blocks) (may-depth _ c (l .blocks) (l .stands)));
+          ends = λ f. may-last c (l .blocks) (subst (λ b. mayStand b c (l .blocks) ≡ true) (eq-eqb (i + 1) (m .count) f) (l .stands)) .0;
+          passed = passed-onward (p .passed) more (g .0) q (g .1) (g .2) (l .so ∙ ap (λ f. soFar v f total (l .blocks)) next) (
+            append-length (p .passed .items) c ∙ ap (λ k. k + 1) (h .0),
+            same-then (h .1) (l .kept) (omega arith) (omega arith) (omega arith) (omega arith) (omega arith) (omega arith),
+            rows-more _ _ (m .first) (p .passed .items) c (λ j o _ f. line-kept (l .kept) s (m .classes) (m .first + i) (omega arith) (limitsOf m) j o (omega (arith, h .0))) (h .2) (omega (arith, h .0)) (l .told),
+          );
+        }
+
+    -- all of them
+    pub lines-all : m .count ≤ i → total ≤ 512 → Tells s (CodeLeft s t x u y m) (Read.Got total here) (readAt (each (m .count) 0 (soFar t (m .first) total []) one) s from)
+    lines-all h room = passed-all (p .passed) h _ total (λ all.
+        let c = p .passed .held in
         record {
           so = ap (λ bs. soFar u (m .first + i) total bs) (p .ends all) ∙ ap (λ k. soFar u (m .first + k) total []) all;
           more = omega arith;
           most = room;
-          kept = p .kept;
-          told = (p .size ∙ all, refl, p .told);
-        },
-      )
-
--- so many methods, or classes, are passed
-pub record Passed {A : Type 0} (s : Text) (t : Table) (x : List ℕ) (u : Table) (y : List ℕ) (one : ℕ → SoFar → Reader (A × SoFar))
-    (Told : List A → ℕ → Type 0) (count classes methods total : ℕ) (from here : At) (all i : ℕ) : Type 0 where
-  pub items : List A
-  pub size : length items ≡ i
-  pub rest : readAt (each count 0 (between t total) one) s from ≡ onto items (readAt (each (count - i) i (between u all) one) s here)
-  pub within : i ≤ count
-  pub placed : Placed s here
-  pub left : Left s t x u y Told classes methods total (items, between u all) all
-
-module _ {A : Type 0} (s : Text) (t : Table) (x : List ℕ) (one : ℕ → SoFar → Reader (A × SoFar)) (count classes methods total : ℕ) (from : At) where
-  -- none yet
-  pub passed-none : (Told : List A → ℕ → Type 0) → total ≤ 512 → Placed s from → Told [] total → Passed s t x t x one Told count classes methods total from from total 0
-  passed-none Told h placed told = record {
-    items = [];
-    size = refl;
-    rest = each-begun one count _ _ _;
-    within = omega arith;
-    placed = placed;
-    left = record { so = refl; more = omega arith; most = h; kept = same-self t x classes methods total; told = told };
-  }
-
-  module _ (u : Table) (y : List ℕ) (Told : List A → ℕ → Type 0) (here : At) (all i : ℕ)
-      (p : Passed s t x u y one Told count classes methods total from here all i) where
-    -- the next one, by what the code gives of it
-    module _ (v : Table) (z : List ℕ) (One : A → ℕ → Type 0) (k j : ℕ) (more : i < count) (r : Read)
-        (told : Tells s (Left s u y v z One k j all) r (readAt (one i (between u all)) s here)) where
-      pub passed-stopped : (w : Verdict) → r ≡ Read.Failed w → readAt (each count 0 (between t total) one) s from ≡ failed w
-      passed-stopped w e = p .rest ∙ each-failed _ _ _ _ _ _ _ more w (told-failed s _ r _ told w e)
-
-      -- its rows join those of the others, which are kept
-      pub passed-onward : (Later : List A → ℕ → Type 0) (n : ℕ) (q : At) → r ≡ Read.Got n q → classes ≤ k → methods ≤ j
-          → ((a : A) → Same u y v z k j all → all ≤ n → Told (p .items) all → One a n → Later (p .items ++ (a ∷ [])) n)
-          → Passed s t x v z one Later count classes methods total from q n (i + 1)
-      passed-onward Later n q e f g join =
-          let h = told-got s _ r _ told n q e in
-          let a = h .0 in
-          let l = h .3 in
-          record {
-            items = p .items ++ (a .0 ∷ []);
-            size = append-length (p .items) (a .0) ∙ ap (λ k. k + 1) (p .size);
-            rest =
-                p .rest
-                ∙ each-onward one count i (p .items) _ _ _ more a _ _ (h .1)
-                ∙ ap (λ so. onto (p .items ++ (a .0 ∷ [])) (readAt (each (count - (i + 1)) (i + 1) so one) s q)) (l .so);
-            within = omega arith;
-            placed = h .2;
-            left = record {
-              so = refl;
-              more = omega (arith, p .left .more, l .more);
-              most = l .most;
-              kept = same-then (p .left .kept) (l .kept) f g (p .left .more);
-              told = join (a .0) (l .kept) (l .more) (p .left .told) (l .told);
-            };
-          }
-
-    -- all of them
-    pub passed-all : count ≤ i
-        → Tells s (Left s t x u y (λ items n. (length items ≡ count) × Told items n) classes methods total) (Read.Got all here) (readAt (each count 0 (between t total) one) s from)
-    unfolding Tells
-    passed-all h =
-        let l = p .left in
-        let every : i ≡ count = omega (arith, p .within) in (
-          (p .items, between u all),
-          p .rest ∙ each-ended _ _ _ _ _ _ _ h,
-          p .placed,
-          record { so = refl; more = l .more; most = l .most; kept = l .kept; told = (p .size ∙ every, l .told) },
-        )
+          kept = c .1;
+          told = (c .0 ∙ all, refl, c .2);
+        })

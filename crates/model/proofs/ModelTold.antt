@@ -2,8 +2,8 @@
 use Prim.Native.Nat.{ℕ, _+_, _-_, _≤_, _<_, min}
 use mathlib.Core.Bool.{Bool, true, false, _&&_}
 use mathlib.Core.List.{List, [], _∷_, _++_}
-use mathlib.Core.Option.{some}
-use mathlib.Core.Path.{_≡_, refl, subst, _∙_}
+use mathlib.Core.Option.{Option, none, some}
+use mathlib.Core.Path.{_≡_, refl, _∙_}
 use native.Mathlib.Omega.{arith}
 use borrow.Author.Tests.{eq-eqb}
 use lib.Dec.{eqb}
@@ -39,10 +39,22 @@ zero-only false n x e h = absurd (false-true e)
 abbrev nothingYet : SoFar
 nothingYet = record { total = 0; creations = []; blocks = [] }
 
--- what a line that is a `new` notes
-creations-one : (at : ℕ) (c : Code) (n : ℕ × ℕ) → newOf c ≡ some n → creationsOf at c ≡ record { at = at; class = n .0; count = n .1 } ∷ []
-unfolding creationsOf
-creations-one at c n e = rw (creationsOf, e)
+-- `new`s noted at or before a line
+abbrev pub Before : ℕ → List Creation → Type 0
+Before last cs = Every (λ n. n .at ≤ last) cs
+
+before-more : (last : ℕ) (cs ds : List Creation) → Before last cs → Before last ds → Before last (cs ++ ds)
+unfolding Every
+before-more last [] ds h k = k
+before-more last (c ∷ cs) ds h k = (h .0, before-more last cs ds (h .1) k)
+
+before-line : (last at : ℕ) (c : Code) → at ≤ last → Before last (creationsOf at c)
+unfolding creationsOf Every
+before-line last at c h = go (newOf c)
+  where
+    go : (o : Option (ℕ × ℕ)) → Before last (elim o [ none ↦ [] | some n ↦ record { at = at; class = n .0; count = n .1 } ∷ [] ])
+    go none = tt
+    go (some n) = (h, tt)
 
 -- of each `new`, its class and the count of its arguments
 module _ (F : ℕ × ℕ → Type 0) where
@@ -56,8 +68,8 @@ module _ (F : ℕ × ℕ → Type 0) where
 
   -- each line notes its own
   noted-line : (at : ℕ) (c : Code) → Noted (creationsOf at c) → NewHas c
-  unfolding Every
-  noted-line at c h n e = subst Noted (creations-one at c n e) h .0
+  unfolding creationsOf Every
+  noted-line at c h n e = (rw (creationsOf, e) at h) .0
 
   -- some noted before others
   noted-split : (cs ds : List Creation) → Noted (cs ++ ds) → Noted cs × Noted ds
@@ -65,72 +77,80 @@ module _ (F : ℕ × ℕ → Type 0) where
   noted-split [] ds h = (tt, h)
   noted-split (c ∷ cs) ds h = let r = noted-split cs ds (h .1) in ((h .0, r .0), r .1)
 
+-- a text of so many lines, less one
+module _ (last : ℕ) (F : ℕ × ℕ → Type 0) where
   -- what is noted after a line was noted before it, or is its own
-  line-news : (lim : Limits) (classes count i : ℕ) (so : SoFar) (c : Code) (t : SoFar) → LineRead lim classes count i so c t
-      → Noted (t .creations) → Noted (so .creations) × NewHas c
+  line-news : (lim : Limits) (classes count i : ℕ) (so : SoFar) (c : Code) (t : SoFar) → LineRead last lim classes count i so c t
+      → Noted F (t .creations) → Noted F (so .creations) × NewHas F c
   line-news lim classes count i so c t r h =
-      let s = noted-split (so .creations) (creationsOf (r .at) c) (subst Noted (r .creations) h) in
-      (s .0, noted-line (r .at) c (s .1))
+      let s = noted-split F (so .creations) (creationsOf (r .at) c) (rw (r .creations) at h) in
+      (s .0, noted-line F (r .at) c (s .1))
 
   -- a method read: what it is like, the lines that it adds, and its `new`s among those noted
   pub record MethodRead (classes attrs run j : ℕ) (so : SoFar) (b : Method) (t : SoFar) : Type 0 where
     pub like : AcceptedMethod classes attrs run j b
     pub total : t .total ≡ so .total + length (b .code)
     pub most : t .total ≤ allLines
-    pub news : Noted (t .creations) → Noted (so .creations) × Every NewHas (b .code)
+    pub news : Noted F (t .creations) → Noted F (so .creations) × Every (NewHas F) (b .code)
+    pub before : Before last (so .creations) → Before last (t .creations)
 
   -- a class read
   pub record ClassRead (classes k : ℕ) (so : SoFar) (c : Class) (t : SoFar) : Type 0 where
     pub like : AcceptedClass classes k c
     pub total : t .total ≡ so .total + totalOf (λ b. length (b .code)) (c .methods)
     pub most : so .total ≤ allLines → t .total ≤ allLines
-    pub news : Noted (t .creations) → Noted (so .creations) × Every (λ b. Every NewHas (b .code)) (c .methods)
+    pub news : Noted F (t .creations) → Noted F (so .creations) × Every (λ b. Every (NewHas F) (b .code)) (c .methods)
+    pub before : Before last (so .creations) → Before last (t .creations)
 
   -- a model read
   pub record ModelRead (m : Model) (t : SoFar) : Type 0 where
     pub count : (1 ≤ length m) × (length m ≤ mostClasses)
     pub classes : EachFrom (AcceptedClass (length m)) 0 m
     pub lines : totalOf (λ c. totalOf (λ b. length (b .code)) (c .methods)) m ≤ allLines
-    pub news : Noted (t .creations) → Every (λ c. Every (λ b. Every NewHas (b .code)) (c .methods)) m
+    pub news : Noted F (t .creations) → Every (λ c. Every (λ b. Every (NewHas F) (b .code)) (c .methods)) m
+    pub before : Before last (t .creations)
 
   module _ (classes : ℕ) (some-class : 0 < classes) where
     -- a method of these numbers and lines
     method-read : (attrs run j : ℕ) (so : SoFar) (params locals count : ℕ) (code : List Code) (t : SoFar)
         → params ≤ zeroIf (eqb run 1 && eqb j 0) mostParams → (params ≤ locals) × (locals ≤ mostLocals)
         → (1 ≤ count) × (count ≤ min mostLines (allLines - so .total)) → length code ≡ count
-        → InTurn (LineRead (record { attrs = attrs; locals = locals }) classes count) 0 (linesBegun so count) code t
+        → InTurn (LineRead last (record { attrs = attrs; locals = locals }) classes count) 0 (linesBegun so count) code t
         → MethodRead classes attrs run j so (record { params = params; locals = locals; code = code }) t
     unfolding linesBegun
     method-read attrs run j so params locals count code t p l n e r =
         let lim : Limits = record { attrs = attrs; locals = locals } in
         let begun = linesBegun so count in
         let total : t .total ≡ so .total + count =
-        turn-keeps (LineRead lim classes count) (λ s. s .total ≡ so .total + count) (λ i s c u o h. o .total ∙ h) 0 begun code t r refl in
+        turn-keeps (LineRead last lim classes count) (λ s. s .total ≡ so .total + count) (λ i s c u o h. o .total ∙ h) 0 begun code t r refl in
         record {
           like = record {
             params = zero-most (eqb run 1 && eqb j 0) mostParams params p;
             first = λ u z. zero-only (eqb run 1 && eqb j 0) mostParams params (rw (eq-eqb run 1 u, eq-eqb j 0 z)) p;
             locals = l;
             lines = (omega arith, omega arith);
-            blocks = lines-accepted lim classes count begun code t r refl e (n .0);
-            code = turn-back (LineRead lim classes count) (λ _. Unit {0}) (CodeWithin lim classes) (λ i s c u o _. (tt, o .within)) 0 begun code t r tt .1;
+            blocks = lines-accepted last lim classes count begun code t r refl e (n .0);
+            code = turn-back (LineRead last lim classes count) (λ _. Unit {0}) (CodeWithin lim classes) (λ i s c u o _. (tt, o .within)) 0 begun code t r tt .1;
           };
           total = omega arith;
           most = omega arith;
-          news = turn-back (LineRead lim classes count) (λ s. Noted (s .creations)) NewHas (line-news lim classes count) 0 begun code t r;
+          news = turn-back (LineRead last lim classes count) (λ s. Noted F (s .creations)) (NewHas F) (line-news lim classes count) 0 begun code t r;
+          before =
+              turn-keeps (LineRead last lim classes count) (λ s. Before last (s .creations))
+              (λ i s c u o h. rw (o .creations) (before-more last (s .creations) _ h (before-line last (o .at) c (o .line)))) 0 begun code t r;
         }
 
     -- whatever method is read
-    brings-method : (attrs run j : ℕ) (so : SoFar) → Brings (Along (MethodRead classes attrs run j so)) (readMethod classes attrs run j so)
+    brings-method : (attrs run j : ℕ) (so : SoFar) → Brings last (Along (MethodRead classes attrs run j so)) (readMethod classes attrs run j so)
     unfolding readMethod
     brings-method attrs run j so =
-        brings-then _ _ _ _ (brings-number (bytes "method=") j j) (λ _ _.
-        brings-then _ _ _ _ (brings-number (bytes "params=") 0 (zeroIf (eqb run 1 && eqb j 0) mostParams)) (λ params p.
-        brings-then _ _ _ _ (brings-number (bytes "locals=") params mostLocals) (λ locals l.
-        brings-then _ _ _ _ (brings-number (bytes "lines=") 1 (min mostLines (allLines - so .total))) (λ count n.
-        brings-then _ _ _ _
-        (brings-each _ _ (λ i s. brings-code (record { attrs = attrs; locals = locals }) classes count i s some-class) count 0 (linesBegun so count))
-        (λ code r. brings-done _ _ (method-read attrs run j so params locals count (code .0) (code .1) (p .1) l n (r .0) (r .1)))))))
+        brings-then last _ _ _ _ (brings-number last (bytes "method=") j j) (λ _ _.
+        brings-then last _ _ _ _ (brings-number last (bytes "params=") 0 (zeroIf (eqb run 1 && eqb j 0) mostParams)) (λ params p.
+        brings-then last _ _ _ _ (brings-number last (bytes "locals=") params mostLocals) (λ locals l.
+        brings-then last _ _ _ _ (brings-number last (bytes "lines=") 1 (min mostLines (allLines - so .total))) (λ count n.
+        brings-then last _ _ _ _
+        (brings-each last _ _ (λ i s. brings-code last (record { attrs = attrs; locals = locals }) classes count i s some-class) count 0 (linesBegun so count))
+        (λ code r. brings-done last _ _ (method-read attrs run j so params locals count (code .0) (code .1) (p .1) l n (r .0) (r .1)))))))
 
     -- a class of these numbers and methods
     class-read : (k : ℕ) (so : SoFar) (attrs given run count : ℕ) (methods : List Method) (t : SoFar)
@@ -149,20 +169,21 @@ module _ (F : ℕ × ℕ → Type 0) where
           };
           total = turn-total (MethodRead classes attrs run) (λ s. s .total) (λ b. length (b .code)) (λ j s b u o. o .total) 0 so methods t r;
           most = turn-keeps (MethodRead classes attrs run) (λ s. s .total ≤ allLines) (λ j s b u o _. o .most) 0 so methods t r;
-          news = turn-back (MethodRead classes attrs run) (λ s. Noted (s .creations)) (λ b. Every NewHas (b .code)) (λ j s b u o. o .news) 0 so methods t r;
+          news = turn-back (MethodRead classes attrs run) (λ s. Noted F (s .creations)) (λ b. Every (NewHas F) (b .code)) (λ j s b u o. o .news) 0 so methods t r;
+          before = turn-keeps (MethodRead classes attrs run) (λ s. Before last (s .creations)) (λ j s b u o. o .before) 0 so methods t r;
         }
 
     -- whatever class is read
-    brings-class : (k : ℕ) (so : SoFar) → Brings (Along (ClassRead classes k so)) (readClass classes k so)
+    brings-class : (k : ℕ) (so : SoFar) → Brings last (Along (ClassRead classes k so)) (readClass classes k so)
     unfolding readClass
     brings-class k so =
-        brings-then _ _ _ _ (brings-number (bytes "class=") k k) (λ _ _.
-        brings-then _ _ _ _ (brings-number (bytes "attrs=") 0 mostAttributes) (λ attrs a.
-        brings-then _ _ _ _ (brings-number (bytes "given=") 0 (zeroIf (eqb k 0) attrs)) (λ given g.
-        brings-then _ _ _ _ (brings-number (bytes "run=") (1 - k) 1) (λ run u.
-        brings-then _ _ _ _ (brings-number (bytes "methods=") run mostMethods) (λ count n.
-        brings-then _ _ _ _ (brings-each _ _ (λ j s. brings-method attrs run j s) count 0 so)
-        (λ methods r. brings-done _ _ (class-read k so attrs given run count (methods .0) (methods .1) (a .1) (g .1) u n (r .0) (r .1))))))))
+        brings-then last _ _ _ _ (brings-number last (bytes "class=") k k) (λ _ _.
+        brings-then last _ _ _ _ (brings-number last (bytes "attrs=") 0 mostAttributes) (λ attrs a.
+        brings-then last _ _ _ _ (brings-number last (bytes "given=") 0 (zeroIf (eqb k 0) attrs)) (λ given g.
+        brings-then last _ _ _ _ (brings-number last (bytes "run=") (1 - k) 1) (λ run u.
+        brings-then last _ _ _ _ (brings-number last (bytes "methods=") run mostMethods) (λ count n.
+        brings-then last _ _ _ _ (brings-each last _ _ (λ j s. brings-method attrs run j s) count 0 so)
+        (λ methods r. brings-done last _ _ (class-read k so attrs given run count (methods .0) (methods .1) (a .1) (g .1) u n (r .0) (r .1))))))))
 
   -- a model of these classes
   model-read : (count : ℕ) (m : Model) (t : SoFar) → (1 ≤ count) × (count ≤ mostClasses) → length m ≡ count
@@ -176,15 +197,16 @@ module _ (F : ℕ × ℕ → Type 0) where
         count = (omega arith, omega arith);
         classes = rw e (turn-each (ClassRead count) (AcceptedClass count) (λ k s c u o. o .like) 0 nothingYet m t r);
         lines = omega arith;
-        news = λ h. turn-back (ClassRead count) (λ s. Noted (s .creations)) _ (λ k s c u o. o .news) 0 nothingYet m t r h .1;
+        news = λ h. turn-back (ClassRead count) (λ s. Noted F (s .creations)) _ (λ k s c u o. o .news) 0 nothingYet m t r h .1;
+        before = turn-keeps (ClassRead count) (λ s. Before last (s .creations)) (λ k s c u o. o .before) 0 nothingYet m t r tt;
       }
 
   -- the whole text
-  pub brings-model : Brings (Along ModelRead) readModel
+  pub brings-model : Brings last (Along ModelRead) readModel
   unfolding readModel
   brings-model =
-      brings-then _ _ _ _ (brings-number (bytes "creol=") edition edition) (λ _ _.
-      brings-then _ _ _ _ (brings-number (bytes "classes=") 1 mostClasses) (λ count n.
-      brings-so (Along (λ m t. (length m ≡ count) × InTurn (ClassRead count) 0 nothingYet m t)) (Along ModelRead) (each count 0 nothingYet (readClass count))
-      (brings-each (ClassRead count) (readClass count) (brings-class count (n .0)) count 0 nothingYet)
+      brings-then last _ _ _ _ (brings-number last (bytes "creol=") edition edition) (λ _ _.
+      brings-then last _ _ _ _ (brings-number last (bytes "classes=") 1 mostClasses) (λ count n.
+      brings-so last (Along (λ m t. (length m ≡ count) × InTurn (ClassRead count) 0 nothingYet m t)) (Along ModelRead) (each count 0 nothingYet (readClass count))
+      (brings-each last (ClassRead count) (readClass count) (brings-class count (n .0)) count 0 nothingYet)
       (λ r h. model-read count (r .0) (r .1) n (h .0) (h .1))))

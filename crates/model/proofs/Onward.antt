@@ -39,26 +39,41 @@ pub tells-failed : {B : Type 0} (s : Text) (Q : B → ℕ → Type 0) (r : Read)
 unfolding Tells
 tells-failed s Q r y v e f = subst (λ q. Tells s Q q y) (sym e) f
 
--- a number within a chain
-module _ {B : Type 0} (s : Text) (low high : ℕ) (rd : Reader ℕ) (k : ℕ → Reader B) (y : LinesRead B) (p : At) (e : y ≡ readAt (rd >>= k) s p)
-    (r : Read) (t : Tells s (InRange low high) r (readAt rd s p)) where
-  -- that is refused
-  pub number-stops : (Q : B → ℕ → Type 0) (v : Verdict) → r ≡ Read.Failed v → Tells s Q r y
-  number-stops Q v f = tells-failed s Q r y v f (e ∙ then-failed _ k _ _ v (told-failed s _ r _ t v f))
+-- where a chain of readings has come: what is left to read of the whole, and from where
+pub record Comes {B : Type 0} (s : Text) (y : LinesRead B) (rd : Reader B) (p : At) : Type 0 where
+  pub left : y ≡ readAt rd s p
+  pub placed : Placed s p
 
-  -- that is passed: what is left to read, and from where
-  pub number-passed : (n : ℕ) (q : At) → r ≡ Read.Got n q → (y ≡ readAt (k n) s q) × Placed s q × (low ≤ n) × (n ≤ high)
-  number-passed n q f =
-      let g = told-got s _ r _ t n q f in
-      (e ∙ then-after _ k _ _ _ _ _ (g .1) ∙ ap (λ a. readAt (k a) s q) (g .3 .0), g .2, g .3 .1, g .3 .2)
+-- the next number of a chain, also where the code works its range out
+module _ {B : Type 0} {s : Text} {y : LinesRead B} {rd rd' : Reader ℕ} {p : At} (k : ℕ → Reader B) (w : Comes s y (rd' >>= k) p) (same : rd ≡ rd') where
+  here : y ≡ readAt (rd >>= k) s p
+  here = w .left ∙ ap (λ x. readAt (x >>= k) s p) (sym same)
 
--- the last reading of a chain, from which something is made
-module _ {A B : Type 0} (s : Text) (P : A → ℕ → Type 0) (Q : B → ℕ → Type 0) (rd : Reader A) (f : A → B) (y : LinesRead B) (p : At)
-    (e : y ≡ readAt (rd >>= (λ a. done (f a))) s p) where
+  module _ (low high : ℕ) {r : Read} (t : Tells s (InRange low high) r (readAt rd s p)) where
+    -- it is refused
+    pub number-stops : (Q : B → ℕ → Type 0) {v : Verdict} → r ≡ Read.Failed v → Tells s Q r y
+    number-stops Q f = tells-failed s Q r y _ f (here ∙ then-failed rd k _ _ _ (told-failed s _ r _ t _ f))
+
+    -- it is passed
+    pub number-passed : {n : ℕ} {q : At} → r ≡ Read.Got n q → Comes s y (k n) q
+    number-passed {n} {q} f =
+        let g = told-got s _ r _ t n q f in
+        record { left = here ∙ then-after rd k _ _ _ _ _ (g .1) ∙ ap (λ a. readAt (k a) s q) (g .3 .0); placed = g .2 }
+
+-- the last reading of a chain, told with more
+pub tells-so : {A : Type 0} {s : Text} {y : LinesRead A} {rd : Reader A} {p : At} → Comes s y rd p → (P Q : A → ℕ → Type 0) (r : Read)
+    → Tells s P r (readAt rd s p) → ((a : A) (n : ℕ) → P a n → Q a n) → Tells s Q r y
+unfolding Tells
+tells-so w P Q (Read.Failed v) t h = w .left ∙ t
+tells-so w P Q (Read.Got n q) t h = (t .0, w .left ∙ t .1, t .2, h (t .0) n (t .3))
+
+-- or from which something is made
+module _ {A B : Type 0} {s : Text} {y : LinesRead B} {p : At} (rd : Reader A) (f : A → B) (w : Comes s y (rd >>= (λ a. done (f a))) p)
+    (P : A → ℕ → Type 0) (Q : B → ℕ → Type 0) where
   pub tells-made : (r : Read) → Tells s P r (readAt rd s p) → ((a : A) (n : ℕ) → P a n → Q (f a) n) → Tells s Q r y
   unfolding Tells done
-  tells-made (Read.Failed v) t h = e ∙ then-failed rd _ _ _ v t
-  tells-made (Read.Got n q) t h = (f (t .0), e ∙ then-after rd _ _ _ _ _ _ (t .1), t .2, h (t .0) n (t .3))
+  tells-made (Read.Failed v) t h = w .left ∙ then-failed rd _ _ _ v t
+  tells-made (Read.Got n q) t h = (f (t .0), w .left ∙ then-after rd _ _ _ _ _ _ (t .1), t .2, h (t .0) n (t .3))
 
 -- things read before others
 unfoldable pub onto : {A S : Type 0} → List A → LinesRead (List A × S) → LinesRead (List A × S)

@@ -63,12 +63,6 @@ module _ (t : Table) (r : ℕ) (x : Row) where
 pub append-length : {A : Type 0} (xs : List A) (x : A) → length (xs ++ (x ∷ [])) ≡ length xs + 1
 append-length xs x = length-append xs (x ∷ [])
 
--- one item more
-pub rows-append : {A : Type 0} (P : ℕ → A → Type 0) (n : ℕ) (xs : List A) (x : A) → Rows P n xs → P (n + length xs) x → Rows P n (xs ++ (x ∷ []))
-unfolding Rows
-rows-append P n [] x h p = (subst (λ i. P i x) (add-zero n) p, tt)
-rows-append P n (y ∷ xs) x h p = (h .0, rows-append P (suc n) xs x (h .1) (subst (λ i. P i x) (omega arith) p))
-
 -- what follows of each item, within the list
 pub rows-keep : {A : Type 0} (P Q : ℕ → A → Type 0) (n : ℕ) (xs : List A)
     → ((i : ℕ) (x : A) → n ≤ i → i < n + length xs → P i x → Q i x) → Rows P n xs → Rows Q n xs
@@ -77,6 +71,16 @@ rows-keep P Q n [] k h = tt
 rows-keep P Q n (x ∷ xs) k h = (
   k n x (omega arith) (omega arith) (h .0),
   rows-keep P Q (suc n) xs (λ i y l m. k i y (omega arith) (omega arith)) (h .1),
+)
+
+-- and one item more
+pub rows-more : {A : Type 0} (P Q : ℕ → A → Type 0) (n : ℕ) (xs : List A) (x : A)
+    → ((i : ℕ) (x : A) → n ≤ i → i < n + length xs → P i x → Q i x) → Rows P n xs → {i : ℕ} → n + length xs ≡ i → Q i x → Rows Q n (xs ++ (x ∷ []))
+unfolding Rows
+rows-more P Q n [] x k h {i} e q = (subst (λ i. Q i x) (omega arith) q, tt)
+rows-more P Q n (y ∷ xs) x k h e q = (
+  k n y (omega arith) (omega arith) (h .0),
+  rows-more P Q (suc n) xs x (λ i z l m. k i z (omega arith) (omega arith)) (h .1) (omega arith) q,
 )
 
 -- within a list there is an item

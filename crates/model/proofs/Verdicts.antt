@@ -1,30 +1,31 @@
 -- The verdict on a text by how it ends, and the table that belongs to it where it is accepted. Assumes nothing.
-use Prim.Native.Nat.{ℕ, _≤_, _<_}
-use mathlib.Core.Bool.{Bool, true, false}
+use Prim.Native.Nat.{ℕ, suc, _+_, _*_, _≤_, _<_}
+use mathlib.Core.Bool.{true, false}
 use mathlib.Core.List.{List, [], _∷_}
 use mathlib.Core.Path.{_≡_, refl, sym, ap, subst, _∙_}
 use native.Mathlib.Omega.{arith}
 use borrow.Author.Tests.{lt-ltb, le-ltb}
-use lib.Dec.{eqb}
 use lib.ListN.{length, drop}
 use Rattle.whole.specs.Refusals.{textTooLong, brokenLine, wrongKey}
 use Rattle.terms.specs.Bytes.{Text}
+use Rattle.terms.specs.declared.Limits.{Limits}
+use Rattle.code.specs.Statements.{Code}
 use Rattle.model.specs.declared.At.{At}
 use Rattle.model.specs.declared.Verdict.{Verdict}
 use Rattle.model.specs.Bounds.{allLines}
-use Rattle.model.specs.InOrder.{failed, after, _>>=_}
-use Rattle.model.specs.Judge.{Judged, refusal, model, givenTo, countsJudged, endJudged, judged, verdictOf, judge}
+use Rattle.model.specs.InOrder.{failed, after}
+use Rattle.model.specs.Judge.{Judged, refusal, model, countsJudged, endJudged, judged, verdictOf, judge}
 use Rattle.model.specs.Lines.{Line, lines, sound, longestText}
 use Rattle.model.specs.Model.{Class, Model}
-use Rattle.model.specs.ModelText.{Creation, SoFar}
+use Rattle.model.specs.ModelText.{SoFar, readModel}
 use Rattle.model.specs.Vocabulary.Belonging.{LineTold, ClassTold, Belongs, Shaped}
 use Rattle.model.specs.Vocabulary.Creations.{GivenTold}
-use Rattle.model.specs.Vocabulary.Readings.{readAt, begin, readHead}
+use Rattle.model.specs.Vocabulary.Readings.{readAt, begin}
 use Rattle.model.specs.Vocabulary.Table.{Table, Rows, rowAt, classRow, classesIn}
-use Rattle.model.proofs.Chains.{fromClasses, model-chain}
-use Rattle.model.proofs.CountsOfNew.{counts-fit, counts-differ, verdict-refusal}
+use Rattle.model.proofs.AcceptedJudged.{Ends, text-ends}
+use Rattle.model.proofs.CountsOfNew.{verdict-refusal}
 use Rattle.model.proofs.Cutting.{line-none}
-use Rattle.model.proofs.Framing.{classes-so}
+use Rattle.model.proofs.Framing.{same-self, class-kept}
 use Rattle.model.proofs.SoundEnds.{SoundLine, BrokenLine}
 use Rattle.model.proofs.TableRows.{rows-keep}
 
@@ -62,9 +63,9 @@ pub judged-long : (s : Text) → longestText < length s → judged s ≡ refusal
 unfolding judged
 judged-long s h = rw (lt-ltb _ _ h, judged) refl
 
-pub judged-short : (s : Text) → length s ≤ longestText → judged s ≡ endJudged (readAt (readHead >>= fromClasses) s begin)
+pub judged-short : (s : Text) → length s ≤ longestText → judged s ≡ endJudged (readAt readModel s begin)
 unfolding judged
-judged-short s h = rw (le-ltb _ _ h, judged) (ap endJudged (model-chain 1 (lines s)))
+judged-short s h = rw (le-ltb _ _ h, judged) refl
 
 -- a text whose reading is refused
 pub end-failed : (v : Verdict) → endJudged (failed v) ≡ refusal v
@@ -85,33 +86,23 @@ pub told-refusal : (s : Text) (t : Table) (x : List ℕ) (v : Verdict) → judge
     → (v ≡ judge s) × ((m : Model) → judged s ≡ model m → Belongs s t m × Shaped t x m)
 told-refusal s t x v e = (sym (judge-verdict s ∙ ap verdictOf e ∙ verdict-refusal v), λ m f. absurd (no-model v m (sym e ∙ f)))
 
--- judging the counts gives the very model
-counts-model : (m : Model) (cs : List Creation) (n : Model) → countsJudged m cs ≡ model n → m ≡ n
-counts-model m [] n e = unfold countsJudged in cc
-counts-model m (c ∷ cs) n e = go (eqb (c .count) (givenTo m (c .class))) refl (counts-model m cs n)
-  where
-    go : (b : Bool) → eqb (c .count) (givenTo m (c .class)) ≡ b → (countsJudged m cs ≡ model n → m ≡ n) → m ≡ n
-    go true f rest = rest (sym (counts-fit m c cs f) ∙ e)
-    go false f rest = absurd (no-model _ n (sym (counts-differ m c cs f) ∙ e))
-
--- and so does the end of the text
+-- a text whose end gives a model gives the one that was read
 end-model : (r : Model × SoFar) (at : ℕ) (ls : List Line) (n : Model) → endJudged (after r at ls) ≡ model n → r .0 ≡ n
-end-model r at [] n e = counts-model (r .0) (r .1 .creations) n (sym (end-none r at) ∙ e)
-end-model r at (l ∷ ls) n e = go (sound l) refl
-  where
-    go : (b : Bool) → sound l ≡ b → r .0 ≡ n
-    go true f = absurd (no-model _ n (sym (end-left r at l ls f) ∙ e))
-    go false f = absurd (no-model _ n (sym (end-broken r at l ls f) ∙ e))
+unfolding Ends
+end-model r at ls n e = subst (Ends (r .0) (r .1 .creations) at) e (text-ends r at ls) .0
 
 -- a table that tells all classes of a model belongs to its text, with its shapes, and tells what each class is to be given
 module _ (s : Text) (t : Table) (x : List ℕ) (n : ℕ) (most : n ≤ allLines) (m : Model) (told : Rows (ClassTold t n (LineTold s (length m) t x)) 0 m) where
+  all-told : (Q : Limits → ℕ → Code → Type 0) → ((lim : Limits) (i : ℕ) (c : Code) → LineTold s (length m) t x lim i c → Q lim i c) → Rows (ClassTold t allLines Q) 0 m
+  all-told Q h = rows-keep _ _ 0 m (λ k c _ _. class-kept (same-self t x (suc k) (8 * k + 8) 0) n allLines most _ Q (λ lim i c _. h lim i c) k c (omega arith) (omega arith)) told
+
   all-belongs : classesIn t ≡ length m → Belongs s t m
   unfolding Belongs LineTold
-  all-belongs e = (e, classes-so t n allLines _ _ most (λ lim i c h. h .0) m told)
+  all-belongs e = (e, all-told _ (λ lim i c h. h .0))
 
   all-shaped : length x ≡ allLines → Shaped t x m
   unfolding Shaped LineTold
-  all-shaped l = (l, classes-so t n allLines _ _ most (λ lim i c h. h .1) m told)
+  all-shaped l = (l, all-told _ (λ lim i c h. h .1))
 
   pub all-given : GivenTold t m
   unfolding ClassTold

@@ -95,7 +95,7 @@ pub fn all_classes(text: &[u8], table: &mut [u32], shapes: &mut [u8], at: At, co
     requires { ⌜ Table.Sized (now table) (now shapes) ⌝ }
     requires { ⌜ Readings.Placed (now text) at ⌝ }
     requires { ⌜ count ≤ 16 ⌝ }
-    ensures { λ r. ⌜ Readings.Tells (now (text .entry)) (Readings.ClassesLeft (now (text .entry)) (now (table .entry)) (now (shapes .entry)) (now (table .exit)) (now (shapes .exit)) count) r (Readings.readAt (InOrder.each count 0 (Readings.between (now (table .entry)) 0) (ModelText.readClass count)) (now (text .entry)) at) ⌝ }
+    ensures { λ r. ⌜ Readings.Tells (now (text .entry)) (Readings.ClassesLeft (now (text .entry)) (now (table .entry)) (now (shapes .entry)) (now (table .exit)) (now (shapes .exit)) count count) r (Readings.readAt (InOrder.each count 0 (Readings.between (now (table .entry)) 0) (ModelText.readClass count)) (now (text .entry)) at) ⌝ }
 {
     let mut here = at;
     let mut all = 0;

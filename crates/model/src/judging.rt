@@ -18,6 +18,7 @@ ghost use Rattle.model.specs.InOrder as InOrder;
 ghost use Rattle.model.specs.Judge as Judge;
 ghost use Rattle.model.specs.Lines as Lines;
 ghost use Rattle.model.specs.Model.{Model};
+ghost use Rattle.model.specs.ModelText as ModelText;
 ghost use Rattle.model.specs.Vocabulary.Belonging as Belonging;
 ghost use Rattle.model.specs.Vocabulary.Creations as Creations;
 ghost use Rattle.model.specs.Vocabulary.Readings as Readings;
@@ -26,18 +27,24 @@ ghost use Rattle.model.specs.Vocabulary.Table as Table;
 // "At most 32,768 bytes"
 const LONGEST_TEXT: usize = 32768;
 
-// The first two lines: "`creol=1`, `classes=` 1..16".
-fn head(text: &[u8]) -> Read
+// The first two lines, "`creol=1`, `classes=` 1..16", and then the classes.
+fn model(text: &[u8], table: &mut [u32], shapes: &mut [u8]) -> Read
+    requires { ⌜ Table.Sized (now table) (now shapes) ⌝ }
     requires { ⌜ length (now text) ≤ Lines.longestText ⌝ }
-    ensures { λ r. ⌜ Readings.Tells (now (text .entry)) (Readings.InRange 1 16) r (Readings.readAt Readings.readHead (now (text .entry)) Readings.begin) ⌝ }
+    ensures { λ r. ⌜ Readings.Tells (now (text .entry)) (Readings.ModelLeft (now (text .entry)) (now (table .entry)) (now (shapes .entry)) (now (table .exit)) (now (shapes .exit))) r (Readings.readAt ModelText.readModel (now (text .entry)) Readings.begin) ⌝ }
 {
     let at = At { place: 0, line: 1 };
-    match key_lines::number_line(text, at, b"creol=", bounds::EDITION, bounds::EDITION) {
-        Read::Failed(verdict) => Read::Failed(verdict),
-        Read::Got(_, at) => {
-            key_lines::number_line(text, at, b"classes=", 1, bounds::MOST_CLASSES)
-        }
-    }
+    let read = key_lines::number_line(text, at, b"creol=", bounds::EDITION, bounds::EDITION);
+    let Read::Got(_, at) = read else {
+        return read;
+    };
+    let read = key_lines::number_line(text, at, b"classes=", 1, bounds::MOST_CLASSES);
+    let Read::Got(count, at) = read else {
+        return read;
+    };
+    let read = classes::all_classes(text, table, shapes, at, count);
+    table::put(table, table::MODEL, Row(count, 0, 0, 0));
+    read
 }
 
 // The end of a text whose classes are all read: "lines left over" are 3, or 2 where the first of them is broken; and only where none is left
@@ -77,15 +84,12 @@ pub fn read(text: &[u8], table: &mut [u32], shapes: &mut [u8]) -> Verdict
             line: 0,
         };
     }
-    match head(text) {
+    match model(text, table, shapes) {
         Read::Failed(verdict) => verdict,
-        Read::Got(count, at) => match classes::all_classes(text, table, shapes, at, count) {
-            Read::Failed(verdict) => verdict,
-            Read::Got(total, at) => {
-                table::put(table, table::MODEL, Row(count, 0, 0, 0));
-                ended(text, table, at, count, total)
-            }
-        },
+        Read::Got(total, at) => {
+            let count = table::classes(table);
+            ended(text, table, at, count, total)
+        }
     }
 }
 

@@ -5,7 +5,7 @@ use mathlib.Core.List.{List, [], _∷_}
 use mathlib.Core.Path.{_≡_}
 use lib.Dec.{eqb}
 use lib.ListN.{length, take, drop}
-use Rattle.terms.specs.Bytes.{Text, bytes}
+use Rattle.terms.specs.Bytes.{Text}
 use Rattle.code.specs.Blocks.{Block}
 use Rattle.code.specs.Statements.{Code}
 use Rattle.code.specs.Vocabulary.OpenBlocks.{packedBlocks}
@@ -16,15 +16,15 @@ use Rattle.model.specs.declared.Keyed.the-variants as Keyed
 use Rattle.model.specs.declared.MethodHead.{MethodHead}
 use Rattle.model.specs.declared.Read.{Read}
 use Rattle.model.specs.declared.Read.the-variants as Read
-use Rattle.model.specs.Bounds.{edition, mostClasses, allLines}
-use Rattle.model.specs.InOrder.{LinesRead, failed, after, Reader, _>>=_, right, keyLine, numberLine}
+use Rattle.model.specs.Bounds.{mostClasses, allLines}
+use Rattle.model.specs.InOrder.{LinesRead, failed, after, Reader, right, keyLine}
 use Rattle.model.specs.Lines.{lines, longestText, longestLine}
 use Rattle.model.specs.Model.{Method, Class, Model}
 use Rattle.model.specs.ModelText.{SoFar, mayStand}
 use Rattle.model.specs.Vocabulary.Belonging.{MethodTold, ClassTold, LineTold}
 use Rattle.model.specs.Vocabulary.Creations.{creationsIn}
 use Rattle.model.specs.Vocabulary.Standing.{limitsOf}
-use Rattle.model.specs.Vocabulary.Table.{Table, Rows, Same}
+use Rattle.model.specs.Vocabulary.Table.{Table, Rows, Same, classesIn}
 
 -- a place in a text that is not too long, where no more lines were passed than bytes
 abbrev pub Placed : Text → At → Type 0
@@ -56,12 +56,6 @@ KeyTold s at (Keyed.Value p e) x =
 -- a number in its range
 abbrev pub InRange : ℕ → ℕ → ℕ → ℕ → Type 0
 InRange lowest highest a n = (a ≡ n) × (lowest ≤ n) × (n ≤ highest)
-
--- the first two lines
-unfoldable pub readHead : Reader ℕ
-readHead = do
-  _ ← numberLine (bytes "creol=") edition edition
-  numberLine (bytes "classes=") 1 mostClasses
 
 -- what is carried from line to line, by a table that tells the first code lines: all `lines=` together, and the open blocks
 abbrev pub soFar : Table → ℕ → ℕ → List Block → SoFar
@@ -96,7 +90,7 @@ module _ (s : Text) (t : Table) (x : List ℕ) (u : Table) (y : List ℕ) where
       (λ cs n. (length cs ≡ m .count) × (n ≡ m .first + m .count) × Rows (LineTold s (m .classes) u y (limitsOf m)) (m .first) cs)
       16 128 (m .first)
 
-  -- a method, and all methods of a class
+  -- a method, and so many methods of a class
   abbrev pub MethodLeft : ClassHead → ℕ → ℕ → Method × SoFar → ℕ → Type 0
   MethodLeft c j total = Left (λ o n. MethodTold u n (LineTold s (c .classes) u y) (c .attrs) (c .index) j o) 16 (8 * c .index + j) total
 
@@ -105,9 +99,15 @@ module _ (s : Text) (t : Table) (x : List ℕ) (u : Table) (y : List ℕ) where
       (λ os n. (length os ≡ count) × Rows (MethodTold u n (LineTold s (c .classes) u y) (c .attrs) (c .index)) 0 os)
       16 (8 * c .index) total
 
-  -- a class, and all classes
+  -- a class, and so many of the classes
   abbrev pub ClassLeft : ℕ → ℕ → ℕ → Class × SoFar → ℕ → Type 0
   ClassLeft classes k total = Left (λ c n. ClassTold u n (LineTold s classes u y) k c) k (8 * k) total
 
-  abbrev pub ClassesLeft : ℕ → Model × SoFar → ℕ → Type 0
-  ClassesLeft count = Left (λ m n. (length m ≡ count) × Rows (ClassTold u n (LineTold s count u y)) 0 m) 0 0 0
+  abbrev pub ClassesLeft : ℕ → ℕ → Model × SoFar → ℕ → Type 0
+  ClassesLeft classes count = Left (λ m n. (length m ≡ count) × Rows (ClassTold u n (LineTold s classes u y)) 0 m) 0 0 0
+
+  -- the whole text, with the model's own row
+  abbrev pub ModelLeft : Model × SoFar → ℕ → Type 0
+  ModelLeft = Left
+      (λ m n. (classesIn u ≡ length m) × (length m ≤ mostClasses) × Rows (ClassTold u n (LineTold s (length m) u y)) 0 m)
+      0 0 0

@@ -1,83 +1,65 @@
 -- `model::classes::all_classes` meets its contract. The invariant: what is left of the classes decides. Assumes nothing.
-use Prim.Native.Nat.{ℕ, _-_}
-use mathlib.Core.List.{List}
+use Prim.Native.Nat.{_-_}
+use mathlib.Core.Path.{refl, _∙_}
 use native.Mathlib.Omega.{arith}
 use borrow.Author.Needs.{needs}
 use denote.Ref.{now}
-use Rattle.terms.specs.Bytes.{Text}
-use Rattle.model.specs.Model.{Model}
 use Rattle.model.specs.ModelText.{readClass}
-use Rattle.model.specs.Vocabulary.Belonging.{LineTold, ClassTold}
-use Rattle.model.specs.Vocabulary.Readings.{Tells}
-use Rattle.model.specs.Vocabulary.Table.{Table, Rows, Sized}
-use Rattle.model.proofs.Loops.{Passed, passed-none, passed-stopped, passed-onward, passed-all}
-use Rattle.model.proofs.Puts.{class-more}
+use Rattle.model.specs.Vocabulary.Readings.{Tells, between, ClassesLeft}
+use Rattle.model.specs.Vocabulary.Table.{Rows, Sized}
+use Rattle.model.proofs.Framing.{same-self, line-kept, class-kept}
+use Rattle.model.proofs.Loops.{Passed, passed-none, passed-stopped, passed-onward, passed-all, left-then}
+use Rattle.model.proofs.Onward.{told-failed, told-got}
+use Rattle.model.proofs.TableRows.{append-length, rows-more}
 use Rattle.model.proofs.classes.all_classes.Statement.{statement}
 use Rattle.model.proofs.classes.all_classes.Tie as tie
 
--- the classes that were read, by their rows
-abbrev classesTold : Text → ℕ → Table → List ℕ → Model → ℕ → Type 0
-classesTold s count t x m n = Rows (ClassTold t n (LineTold s count t x)) 0 m
-
 abbrev Inv-loop : tie.InvT-loop
 Inv-loop text table₀ shapes₀ count here₀ all₀ k₀ table shapes here all k =
-    Passed text table₀ shapes₀ table shapes (readClass count) (classesTold text count table shapes) count 0 0 0 here₀ here all k × Sized table shapes
+    Passed text (readClass count) count (between table₀ 0) here₀ here k (between table all)
+    (λ m. ClassesLeft text table₀ shapes₀ table shapes count k (m, between table all) all)
+    × Sized table shapes
 
 abbrev μ-loop : tie.MeasureT-loop
 μ-loop text table₀ shapes₀ count here₀ all₀ k₀ table shapes here all k = count - k
 
 loop-holds : tie.Need-loop-holds Inv-loop μ-loop
 unfolding Rows
-loop-holds c = let b = c .before .before .before in (passed-none _ _ _ _ _ _ _ _ _ _ (omega arith) (b .pre .1 .0) tt, b .pre .0)
+loop-holds c =
+    let b = c .before .before .before in
+    (passed-none (b .pre .1 .0) (record { so = refl; more = omega arith; most = omega arith; kept = same-self _ _ 0 0 0; told = (refl, tt) }), b .pre .0)
 
 class-requires : tie.Need-class-requires Inv-loop μ-loop
 class-requires c κs =
     let i = c .before .before .before .loop .inv in
-    let b = c .before .before .before .before .before .before .before in
-    (i .1, (i .0 .placed, (c .before .before .loop-test .taken, b .pre .1 .1, i .0 .left .most)))
-
-enum-known-verdict : tie.Need-enum-known-verdict Inv-loop μ-loop
-enum-known-verdict c = search needs
-
-same-length : tie.Need-same-length Inv-loop μ-loop
-same-length c = search needs
-
-same-length-2 : tie.Need-same-length-2 Inv-loop μ-loop
-same-length-2 c = search needs
+    (i .1, (i .0 .placed, (c .before .before .loop-test .taken, c .before .before .before .before .before .before .before .pre .1 .1, i .0 .held .most)))
 
 returns : tie.Need-returns Inv-loop μ-loop
 unfolding Tells
 returns c =
     let k = c .before .before .before .before .before .before .before in
-    passed-stopped _ _ _ _ _ _ _ _ _ _ _ _ _ _ _ (k .before .before .before .before .loop .inv .0) _ _ _ _ _ (k .before .before .before .loop-test .taken) _ (k .class .ensures) _ (c .before .verdict .given .1)
-
-enum-known-after : tie.Need-enum-known-after Inv-loop μ-loop
-enum-known-after c = search needs
-
-add-k : tie.Need-add-k Inv-loop μ-loop
-add-k c = search needs
-
-loop-less : tie.Need-loop-less Inv-loop μ-loop
-loop-less c = search needs
+    passed-stopped (k .before .before .before .before .loop .inv .0) (k .before .before .before .loop-test .taken) (told-failed _ _ _ _ (k .class .ensures) _ (c .before .verdict .given .1))
 
 loop-again : tie.Need-loop-again Inv-loop μ-loop
 loop-again c =
     let k = c .before .before .before .before .before .before .before in
     let i = k .before .before .before .before .loop .inv .0 in
-    let a = k .before .before .before .before .before .before .before .before .args in (
-      passed-onward _ _ _ _ _ _ _ _ _ _ _ _ _ _ _ i _ _ _ _ _ (k .before .before .before .loop-test .taken) _ (k .class .ensures) (classesTold (now (a .text)) (a .count) _ _) _ _ (c .before .after .given .1) (omega arith) (omega arith)
-          (λ o same h told own. class-more _ _ _ _ _ _ _ _ h _ (i .items) o same (i .size) told own),
+    let a = k .before .before .before .before .before .before .before .before .args in
+    let g = told-got _ _ _ _ (k .class .ensures) _ _ (c .before .after .given .1) in
+    let h = i .held in
+    let l = g .3 in (
+      passed-onward i (k .before .before .before .loop-test .taken) (g .0) _ (g .1) (g .2) (l .so) (left-then _ h l (omega arith) (omega arith) (
+        rw (append-length (i .items) (g .0 .0), h .told .0) refl,
+        rows-more _ _ 0 (i .items) _ (λ k c _ d. class-kept (l .kept) _ _ (l .more) _ _ (line-kept (l .kept) (now (a .text)) (a .count) _ (omega arith)) k c (omega (arith, h .told .0)) (omega (arith, h .told .0))) (h .told .1) (omega (arith, h .told .0)) (l .told),
+      )),
       (search needs, search needs),
     )
 
-same-length-3 : tie.Need-same-length-3 Inv-loop μ-loop
-same-length-3 c = search needs
-
-same-length-4 : tie.Need-same-length-4 Inv-loop μ-loop
-same-length-4 c = search needs
-
 returns-2 : tie.Need-returns-2 Inv-loop μ-loop
-returns-2 c = passed-all _ _ _ _ _ _ _ _ _ _ _ _ _ _ _ (c .before .loop .inv .0) (c .loop-test .left)
+returns-2 c =
+    let i = c .before .loop .inv .0 in
+    let h = i .held in
+    passed-all i (c .loop-test .left) _ _ (λ e. record { so = refl; more = h .more; most = h .most; kept = h .kept; told = (h .told .0 ∙ e, h .told .1) })
 
 pub all-classes-spec : {M : Type 1} → statement M
 all-classes-spec =
@@ -87,14 +69,14 @@ all-classes-spec =
     μ-loop
     loop-holds
     class-requires
-    enum-known-verdict
-    same-length
-    same-length-2
+    (λ c. search needs)
+    (λ c. search needs)
+    (λ c. search needs)
     returns
-    enum-known-after
-    add-k
-    loop-less
+    (λ c. search needs)
+    (λ c. search needs)
+    (λ c. search needs)
     loop-again
-    same-length-3
-    same-length-4
+    (λ c. search needs)
+    (λ c. search needs)
     returns-2)

@@ -20,18 +20,9 @@ inside : (c : tie.After-place) → (let a = c .before .before .before .before .b
     (v .0 ≤ v .1 .0) × (v .1 .0 < length (now (a .text))) × (v .1 .0 - v .0 ≤ 120))
 inside c = value-inside _ _ _ (λ _ v. right v) _ (c .before .before .key-line .ensures) _ _ (c .place .given .1)
 
-slice-aggregate-key-line : tie.Need-slice-aggregate-key-line
-slice-aggregate-key-line c = search needs
-
 key-line-requires : tie.Need-key-line-requires
 unfolding plainByte plainBytes
 key-line-requires c κs = (c .before .before .before .before .pre .1 .0, refl)
-
-enum-known-verdict : tie.Need-enum-known-verdict
-enum-known-verdict c = search needs
-
-enum-known-place : tie.Need-enum-known-place
-enum-known-place c = search needs
 
 sub-code-value : tie.Need-sub-code-value
 sub-code-value c = let h = inside (c .before) in search needs
@@ -42,9 +33,6 @@ part-code-value-start c = let h = inside (c .before) in search needs
 part-code-value-end : tie.Need-part-code-value-end
 part-code-value-end c = let h = inside (c .before) in search needs
 
-add-code-value : tie.Need-add-code-value
-add-code-value c = search needs
-
 code-value-requires : tie.Need-code-value-requires
 code-value-requires c κs =
     let k = c .before .before .before in
@@ -54,32 +42,14 @@ code-value-requires c κs =
     let h = inside k in
     (omega (arith, length-take (v .1 .0 - v .0) (drop (v .0) (now (a .text))), length-drop (v .0) (now (a .text))), (search needs, search needs))
 
-enum-known-number : tie.Need-enum-known-number
-enum-known-number c = search needs
-
-enum-known-stated : tie.Need-enum-known-stated
-enum-known-stated c = search needs
-
-add-row : tie.Need-add-row
-add-row c = search needs
-
-cast-row : tie.Need-cast-row
-cast-row c = search needs
-
 sub-long : tie.Need-sub-long
 sub-long c = let h = inside (c .before .before .before .before .before .before .before .before) in search needs
 
 cast-long : tie.Need-cast-long
 cast-long c = let h = inside (c .before .before .before .before .before .before .before .before) in search needs
 
-add-put : tie.Need-add-put
-add-put c = search needs
-
 cast-t30 : tie.Need-cast-t30
 cast-t30 c = let h = inside (c .before .before .before .before .before .before .before .before .before) in search needs
-
-put-requires : tie.Need-put-requires
-put-requires c κs = search needs
 
 slice-write-shapes : tie.Need-slice-write-shapes
 slice-write-shapes c =
@@ -110,12 +80,6 @@ returns-2 c = λ total bs e.
     (taken-wrong (a .method) (a .i) (soFar (now (a .table)) (a .method .first + a .i) total bs) (a .at .line) _ _
     (said-refused _ _ _ bs _ (c .before .before .before .code-value .ensures bs e) _ (c .before .number .given .1)))
 
-same-length : tie.Need-same-length
-same-length c = search needs
-
-same-length-2 : tie.Need-same-length-2
-same-length-2 c = search needs
-
 returns-3 : tie.Need-returns-3
 unfolding Tells codeLine
 returns-3 c = λ total bs e.
@@ -137,29 +101,29 @@ pub code-line-spec : {M : Type 1} → statement M
 code-line-spec =
     tie.close
     (tie.spec
-    slice-aggregate-key-line
+    (λ c. search needs)
     key-line-requires
-    enum-known-verdict
-    enum-known-place
+    (λ c. search needs)
+    (λ c. search needs)
     sub-code-value
     part-code-value-start
     part-code-value-end
-    add-code-value
+    (λ c. search needs)
     code-value-requires
-    enum-known-number
-    enum-known-stated
-    add-row
-    cast-row
+    (λ c. search needs)
+    (λ c. search needs)
+    (λ c. search needs)
+    (λ c. search needs)
     sub-long
     cast-long
-    add-put
+    (λ c. search needs)
     cast-t30
-    put-requires
+    (λ c κs. search needs)
     slice-write-shapes
     add-t31
     add-t30
     returns
     returns-2
-    same-length
-    same-length-2
+    (λ c. search needs)
+    (λ c. search needs)
     returns-3)

@@ -15,48 +15,15 @@ shape c =
     let l = c .before .before in
     c .shape-of .ensures ∙ told _ _ (l .before .before .before .before .before .before .args .method) (l .before .before .before .around .ensures) _ _ (l .before .before .statement .ensures) _ (l .said .given .1) .shape
 
-slice-aggregate-statement : tie.Need-slice-aggregate-statement
-slice-aggregate-statement c = search needs
-
-around-requires : tie.Need-around-requires
-around-requires c κs = search needs
-
-statement-requires : tie.Need-statement-requires
-statement-requires c κs = search needs
-
-enum-known-said : tie.Need-enum-known-said
-enum-known-said c = search needs
-
-enum-told : tie.Need-enum-told
-enum-told c = search needs
-
 returns : tie.Need-returns
 returns c = λ bs e.
     code-bad _ _ _ (c .before .before .before .around .ensures) _ _ (c .before .before .statement .ensures) _ bs _ (c .enum-told .given .1)
-
-shape-of-requires : tie.Need-shape-of-requires
-shape-of-requires c κs = search needs
-
-standing-requires : tie.Need-standing-requires
-standing-requires c κs = search needs
-
-enum-known-after : tie.Need-enum-known-after
-enum-known-after c = search needs
-
-enum-told-2 : tie.Need-enum-told-2
-enum-told-2 c = search needs
 
 returns-2 : tie.Need-returns-2
 returns-2 c = λ bs e.
     let l = c .before .before .before .before .before in
     code-stuck _ _ _ (l .before .before .before .around .ensures) _ _ (l .before .before .statement .ensures) _ (l .said .given .1) _ bs
     (unmatched-told _ (sym (c .before .before .standing .ensures _ bs (shape (c .before .before .before)) e) ∙ c .enum-told2 .given .1))
-
-shape-number-requires : tie.Need-shape-number-requires
-shape-number-requires c κs = search needs
-
-new-of-requires : tie.Need-new-of-requires
-new-of-requires c κs = search needs
 
 new-number-requires : tie.Need-new-number-requires
 new-number-requires c κs =
@@ -77,18 +44,18 @@ pub code-value-spec : {M : Type 1} → statement M
 code-value-spec =
     tie.close
     (tie.spec
-    slice-aggregate-statement
-    around-requires
-    statement-requires
-    enum-known-said
-    enum-told
+    (λ c. search needs)
+    (λ c κs. search needs)
+    (λ c κs. search needs)
+    (λ c. search needs)
+    (λ c. search needs)
     returns
-    shape-of-requires
-    standing-requires
-    enum-known-after
-    enum-told-2
+    (λ c κs. search needs)
+    (λ c κs. search needs)
+    (λ c. search needs)
+    (λ c. search needs)
     returns-2
-    shape-number-requires
-    new-of-requires
+    (λ c κs. search needs)
+    (λ c κs. search needs)
     new-number-requires
     returns-3)

@@ -19,12 +19,6 @@ told : (c : tie.After-shape-number2) (code : Code) → c .before .before .before
     → shapeNumber Shape.Return ≡ shapeNumber (shapeOf code) → c .before .shape-number .result ≡ c .shape-number2 .result
 told c code f e = c .before .shape-number .ensures ∙ e ∙ sym (c .shape-number2 .ensures ∙ ap shapeNumber f)
 
-shape-number-requires : tie.Need-shape-number-requires
-shape-number-requires c κs = search needs
-
-shape-number-requires-2 : tie.Need-shape-number-requires-2
-shape-number-requires-2 c κs = search needs
-
 returns : tie.Need-returns
 returns c = λ code bs f e. last-return code bs _ e (same (c .before) code f (c .if2 .taken)) ∙ ap (λ l. mayStand l code bs) (sym (c .before .before .before .if1 .taken))
 
@@ -36,4 +30,4 @@ returns-3 c = λ code bs f e. not-last code bs _ e ∙ ap (λ l. mayStand l code
 
 pub may-stand-spec : {M : Type 1} → statement M
 may-stand-spec =
-    tie.close (tie.spec shape-number-requires shape-number-requires-2 returns returns-2 returns-3)
+    tie.close (tie.spec (λ c κs. search needs) (λ c κs. search needs) returns returns-2 returns-3)

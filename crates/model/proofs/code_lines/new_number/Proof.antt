@@ -7,12 +7,6 @@ use mathlib.Core.Path.{sym, ap, _∙_}
 use Rattle.model.proofs.code_lines.new_number.Statement.{statement}
 use Rattle.model.proofs.code_lines.new_number.Tie as tie
 
-enum-told : tie.Need-enum-told
-enum-told c = search needs
-
-enum-known-new : tie.Need-enum-known-new
-enum-known-new c = search needs
-
 -- the bounds of its class and of its arguments
 bounds : (c : tie.After-new) → (c .new .given .0 .0 < 16) × (c .new .given .0 .1 .0 < 65536)
 bounds c = c .before .before .pre _ _ (c .new .given .1)
@@ -41,8 +35,8 @@ pub new-number-spec : {M : Type 1} → statement M
 new-number-spec =
     tie.close
     (tie.spec
-    enum-told
-    enum-known-new
+    (λ c. search needs)
+    (λ c. search needs)
     add-result
     cast-result
     mul-result

@@ -17,18 +17,6 @@ opened : (c : tie.After-after) (code : Code) (bs : List Block) → (let a = c .b
     → (left : List Block) × (through (shapeOf code) bs ≡ some left) × (c .after .given .0 .0 ≡ packedBlocks left))
 opened c code bs = λ f e. open-told _ _ (ap (λ s. asBlocks (through s bs)) (sym f) ∙ sym (c .before .before .through .ensures bs e) ∙ c .after .given .1)
 
-through-requires : tie.Need-through-requires
-through-requires c κs = search needs
-
-enum-told : tie.Need-enum-told
-enum-told c = search needs
-
-enum-known-after : tie.Need-enum-known-after
-enum-known-after c = search needs
-
-may-stand-requires : tie.Need-may-stand-requires
-may-stand-requires c κs = search needs
-
 returns : tie.Need-returns
 unfolding asBlocks
 returns c = λ code bs f e.
@@ -50,10 +38,10 @@ pub standing-spec : {M : Type 1} → statement M
 standing-spec =
     tie.close
     (tie.spec
-    through-requires
-    enum-told
-    enum-known-after
-    may-stand-requires
+    (λ c κs. search needs)
+    (λ c. search needs)
+    (λ c. search needs)
+    (λ c κs. search needs)
     returns
     returns-2
     returns-3)

@@ -24,12 +24,6 @@ abbrev μ-loop : tie.MeasureT-loop
 loop-holds : tie.Need-loop-holds Inv-loop μ-loop
 loop-holds c m told l = rw sub-zero refl
 
-code-row-requires : tie.Need-code-row-requires Inv-loop μ-loop
-code-row-requires c κs = search needs
-
-fits-requires : tie.Need-fits-requires Inv-loop μ-loop
-fits-requires c κs = search needs
-
 returns : tie.Need-returns Inv-loop μ-loop
 returns c m told l =
     let r = c .before .before in
@@ -61,8 +55,8 @@ counts-judged-spec =
     Inv-loop
     μ-loop
     loop-holds
-    code-row-requires
-    fits-requires
+    (λ c κs. search needs)
+    (λ c κs. search needs)
     returns
     add-i
     loop-less

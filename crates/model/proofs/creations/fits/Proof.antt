@@ -10,14 +10,8 @@ use Rattle.model.proofs.creations.fits.Tie as tie
 returns : tie.Need-returns
 returns c m told l = sym (fits-none m _ (c .if1 .taken))
 
-sub-told : tie.Need-sub-told
-sub-told c = search needs
-
-given-to-requires : tie.Need-given-to-requires
-given-to-requires c κs = search needs
-
 returns-2 : tie.Need-returns-2
 returns-2 c m told l = ap (eqb _) (c .given-to .ensures m told l) ∙ sym (fits-some m _ (omega arith))
 
 pub fits-spec : {M : Type 1} → statement M
-fits-spec = tie.close (tie.spec returns sub-told given-to-requires returns-2)
+fits-spec = tie.close (tie.spec returns (λ c. search needs) (λ c κs. search needs) returns-2)

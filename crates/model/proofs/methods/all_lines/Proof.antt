@@ -3,13 +3,14 @@ use Prim.Native.Nat.{_-_}
 use borrow.Author.Needs.{needs}
 use Rattle.model.specs.Vocabulary.Readings.{Tells}
 use Rattle.model.specs.Vocabulary.Table.{Sized}
-use Rattle.model.proofs.Loops.{LinesPassed, lines-begun, lines-stopped, lines-onward, lines-all}
+use Rattle.model.proofs.Loops.{passed-stopped, LinesPassed, lines-begun, lines-onward, lines-all}
+use Rattle.model.proofs.Onward.{told-failed}
 use Rattle.model.proofs.methods.all_lines.Statement.{statement}
 use Rattle.model.proofs.methods.all_lines.Tie as tie
 
 abbrev Inv-loop : tie.InvT-loop
 Inv-loop text table₀ shapes₀ method here₀ blocks₀ i₀ table shapes here blocks i =
-    LinesPassed text table₀ shapes₀ table shapes method here₀ here blocks i × Sized table shapes
+    LinesPassed text table₀ shapes₀ method here₀ table shapes here blocks i × Sized table shapes
 
 abbrev μ-loop : tie.MeasureT-loop
 μ-loop text table₀ shapes₀ method here₀ blocks₀ i₀ table shapes here blocks i = method .count - i
@@ -22,52 +23,23 @@ code-line-requires c κs =
     let i = c .before .before .before .before .loop .inv in
     let b = c .before .before .before .before .before .before .before .before in
     let h = i .0 .few in
-    (i .1, (i .0 .placed, (search needs, h)))
-
-enum-known-verdict : tie.Need-enum-known-verdict Inv-loop μ-loop
-enum-known-verdict c = search needs
-
-same-length : tie.Need-same-length Inv-loop μ-loop
-same-length c = search needs
-
-same-length-2 : tie.Need-same-length-2 Inv-loop μ-loop
-same-length-2 c = search needs
+    (i .1, (i .0 .passed .placed, (search needs, h)))
 
 returns : tie.Need-returns Inv-loop μ-loop
 unfolding Tells
 returns c =
     let k = c .before .before .before .before .before .before .before in
     let i = k .before .before .before .before .before .loop .inv .0 in
-    lines-stopped _ _ _ _ _ _ _ _ _ _ i _ _ (k .before .before .before .if1 .taken) _ (k .code-line .ensures _ (i .left) (i .number)) _ (c .before .verdict .given .1)
-
-enum-known-after : tie.Need-enum-known-after Inv-loop μ-loop
-enum-known-after c = search needs
-
-add-i : tie.Need-add-i Inv-loop μ-loop
-add-i c = search needs
-
-loop-less : tie.Need-loop-less Inv-loop μ-loop
-loop-less c = search needs
+    passed-stopped (i .passed) (k .before .before .before .if1 .taken) (told-failed _ _ _ _ (k .code-line .ensures _ (i .left) (i .number)) _ (c .before .verdict .given .1))
 
 loop-again : tie.Need-loop-again Inv-loop μ-loop
 loop-again c =
     let k = c .before .before .before .before .before .before .before in
     let i = k .before .before .before .before .before .loop .inv .0 in
-    (lines-onward _ _ _ _ _ _ _ _ _ _ i _ _ (k .before .before .before .if1 .taken) _ (k .code-line .ensures _ (i .left) (i .number)) _ _ (c .before .after .given .1), (search needs, search needs))
-
-add-t18 : tie.Need-add-t18 Inv-loop μ-loop
-add-t18 c = search needs
-
-same-length-3 : tie.Need-same-length-3 Inv-loop μ-loop
-same-length-3 c = search needs
-
-same-length-4 : tie.Need-same-length-4 Inv-loop μ-loop
-same-length-4 c = search needs
+    (lines-onward _ _ _ _ _ _ _ _ _ _ i (k .before .before .before .if1 .taken) _ _ _ (k .code-line .ensures _ (i .left) (i .number)) _ _ (c .before .after .given .1), (search needs, search needs))
 
 returns-2 : tie.Need-returns-2 Inv-loop μ-loop
-returns-2 c =
-    let b = c .before .before .before .before .before .before .before in
-    lines-all _ _ _ _ _ _ _ _ _ _ (c .before .before .before .loop .inv .0) (c .before .if1 .left) (b .pre .1 .1 .3)
+returns-2 c = lines-all _ _ _ _ _ _ _ _ _ _ (c .before .before .before .loop .inv .0) (c .before .if1 .left) (c .before .before .before .before .before .before .before .pre .1 .1 .3)
 
 pub all-lines-spec : {M : Type 1} → statement M
 all-lines-spec =
@@ -77,15 +49,15 @@ all-lines-spec =
     μ-loop
     loop-holds
     code-line-requires
-    enum-known-verdict
-    same-length
-    same-length-2
+    (λ c. search needs)
+    (λ c. search needs)
+    (λ c. search needs)
     returns
-    enum-known-after
-    add-i
-    loop-less
+    (λ c. search needs)
+    (λ c. search needs)
+    (λ c. search needs)
     loop-again
-    add-t18
-    same-length-3
-    same-length-4
+    (λ c. search needs)
+    (λ c. search needs)
+    (λ c. search needs)
     returns-2)

@@ -6,12 +6,9 @@ use Rattle.model.specs.Vocabulary.Table.{classesIn}
 use Rattle.model.proofs.table.classes.Statement.{statement}
 use Rattle.model.proofs.table.classes.Tie as tie
 
-row-requires : tie.Need-row-requires
-row-requires c κs = search needs
-
 returns : tie.Need-returns
 unfolding classesIn
 returns c = ap (λ (x : Row). x .0) (c .row .ensures)
 
 pub classes-spec : {M : Type 1} → statement M
-classes-spec = tie.close (tie.spec row-requires returns)
+classes-spec = tie.close (tie.spec (λ c κs. search needs) returns)

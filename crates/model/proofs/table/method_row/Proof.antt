@@ -6,14 +6,8 @@ use Rattle.model.specs.Vocabulary.Table.{rowAt}
 use Rattle.model.proofs.table.method_row.Statement.{statement}
 use Rattle.model.proofs.table.method_row.Tie as tie
 
-method-place-requires : tie.Need-method-place-requires
-method-place-requires c κs = search needs
-
-row-requires : tie.Need-row-requires
-row-requires c κs = search needs
-
 returns : tie.Need-returns
 returns c = c .row .ensures ∙ ap (rowAt (now (c .before .before .before .args .table))) (c .before .method-place .ensures)
 
 pub method-row-spec : {M : Type 1} → statement M
-method-row-spec = tie.close (tie.spec method-place-requires row-requires returns)
+method-row-spec = tie.close (tie.spec (λ c κs. search needs) (λ c κs. search needs) returns)

@@ -6,19 +6,10 @@ use Rattle.model.specs.Vocabulary.Table.{put}
 use Rattle.model.proofs.table.put_method.Statement.{statement}
 use Rattle.model.proofs.table.put_method.Tie as tie
 
-method-place-requires : tie.Need-method-place-requires
-method-place-requires c κs = search needs
-
-put-requires : tie.Need-put-requires
-put-requires c κs = search needs
-
-same-length : tie.Need-same-length
-same-length c = search needs
-
 returns : tie.Need-returns
 returns c =
     let a = c .before .before .before .before .before .before .args in
     c .before .before .put .ensures ∙ ap (λ r. put (now (a .table)) r (a .row)) (c .before .before .before .method-place .ensures)
 
 pub put-method-spec : {M : Type 1} → statement M
-put-method-spec = tie.close (tie.spec method-place-requires put-requires same-length returns)
+put-method-spec = tie.close (tie.spec (λ c κs. search needs) (λ c κs. search needs) (λ c. search needs) returns)
