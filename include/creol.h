@@ -27,6 +27,12 @@ extern "C" {
 /* The kinds of a choice. The number that goes with an exec is an object's, with each other kind a label's. */
 enum { CREOL_EXEC = 1, CREOL_ARRIVE = 2, CREOL_BIND = 3, CREOL_START = 4, CREOL_DELIVER = 5 };
 
+/* A choice of a run: its kind, and the object or the label that goes with it. */
+struct creol_choice {
+    int32_t kind;
+    int32_t number;
+};
+
 /* The verdict on a model text. It reads the text alone. */
 uint64_t creol_judge(const uint8_t *text, size_t text_len);
 
@@ -38,14 +44,13 @@ uint64_t creol_start(const uint8_t *text, size_t text_len, int32_t *cells, size_
  * configuration in the cells; a refusal writes none. The cells must not overlap the text. */
 uint64_t creol_step(const uint8_t *text, size_t text_len, int32_t *cells, size_t cells_len, int32_t kind, int32_t number);
 
-/* A run: one step after the other, by a list of choices. A choice is two numbers, its kind and its number, and the
- * choices stand one after the other; their length counts numbers, and an odd one at the end is no choice. The answers
- * have one place for each choice: their length is half of that of the choices, rounded down, and any other is refused
- * with 13. It reads the text, the cells and the choices. An acceptance writes the last configuration in the cells and
- * every answer: 0 where the choice was accepted, and else the number of its refusal, behind which the run goes on. A
- * refusal writes no cell and no answer. Cells and answers must not overlap each other, nor the text or the choices. */
-uint64_t creol_run(const uint8_t *text, size_t text_len, int32_t *cells, size_t cells_len, const int32_t *choices,
-                   size_t choices_len, int32_t *answers, size_t answers_len);
+/* A run: one step after the other, by a list of choices. The length of the choices counts choices. The answers have one
+ * place for each choice: their length is that of the choices, and any other is refused with 13. It reads the text, the
+ * cells and the choices. An acceptance writes the last configuration in the cells and every answer: 0 where the choice
+ * was accepted, and else the number of its refusal, behind which the run goes on. A refusal writes no cell and no
+ * answer. Cells and answers must not overlap each other, nor the text or the choices. */
+uint64_t creol_run(const uint8_t *text, size_t text_len, int32_t *cells, size_t cells_len,
+                   const struct creol_choice *choices, size_t choices_len, int32_t *answers, size_t answers_len);
 
 /* A drive: up to budget steps, each the first that is accepted of exec 1, 2 and so on, arrive, bind, start and deliver.
  * A budget over 10,000 is refused with 14. It reads the text and the cells. An acceptance writes the last configuration

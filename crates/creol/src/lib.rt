@@ -11,7 +11,6 @@ ghost use Prim.Native.Nat.{_≤_};
 ghost use Rattle.model.specs.Judge as Judge;
 ghost use Rattle.engine.specs.Drive.{mostSteps};
 ghost use Rattle.engine.specs.Entries as Entries;
-ghost use Rattle.entries.specs.Vocabulary.Paired.{paired};
 ghost use Rattle.creol.specs.Vocabulary.Packed as Packed;
 
 // A verdict has a number and a line, and nothing above them.
@@ -47,17 +46,17 @@ pub extern "C" fn creol_step(text: &[u8], cells: &mut [i32], kind: i32, number: 
     packed(entries::step(text, cells, Choice { kind, number }))
 }
 
-// Run: a list of choices, kind and number one after the other, and an answer to each in its own place.
+// Run: a list of choices, each a kind with its number, and an answer to each in its own place.
 #[no_mangle]
 pub extern "C" fn creol_run(
     text: &[u8],
     cells: &mut [i32],
-    choices: &[i32],
+    choices: &[Choice],
     answers: &mut [i32],
 ) -> u64
-    ensures { λ r. ⌜ r ≡ Packed.packed (Entries.run (now (text .entry)) (now (cells .entry)) (paired (now (choices .entry))) (now (answers .entry)) .verdict) ⌝ }
-    ensures { λ _. ⌜ now (cells .exit) ≡ Entries.run (now (text .entry)) (now (cells .entry)) (paired (now (choices .entry))) (now (answers .entry)) .cells ⌝ }
-    ensures { λ _. ⌜ now (answers .exit) ≡ Entries.run (now (text .entry)) (now (cells .entry)) (paired (now (choices .entry))) (now (answers .entry)) .answers ⌝ }
+    ensures { λ r. ⌜ r ≡ Packed.packed (Entries.run (now (text .entry)) (now (cells .entry)) (now (choices .entry)) (now (answers .entry)) .verdict) ⌝ }
+    ensures { λ _. ⌜ now (cells .exit) ≡ Entries.run (now (text .entry)) (now (cells .entry)) (now (choices .entry)) (now (answers .entry)) .cells ⌝ }
+    ensures { λ _. ⌜ now (answers .exit) ≡ Entries.run (now (text .entry)) (now (cells .entry)) (now (choices .entry)) (now (answers .entry)) .answers ⌝ }
 {
     packed(running::run(text, cells, choices, answers))
 }

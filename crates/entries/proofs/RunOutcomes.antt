@@ -1,9 +1,10 @@
--- What run gives once the configuration is tested, by what that test and 13's said. Assumes nothing.
+-- What run gives, by what the tests before it said. Assumes nothing.
 use Prim.Native.Nat.{ℕ}
 use mathlib.Core.Bool.{Bool, true, false}
 use mathlib.Core.List.{List}
 use mathlib.Core.Logic.{_≢_}
-use mathlib.Core.Path.{_≡_, sym, ap, ap₂, _∙_}
+use mathlib.Core.Path.{_≡_, refl, sym, ap, ap₂, _∙_}
+use native.Mathlib.Omega.{arith}
 use borrow.Author.Tests.{eq-eqb, ne-eqb}
 use lib.Dec.{eqb}
 use lib.IntN.{ℤ}
@@ -17,7 +18,7 @@ use Rattle.model.specs.Vocabulary.Table.{Table}
 use Rattle.rules.specs.declared.Choice.{Choice}
 use Rattle.engine.specs.Run.{runCells, runAnswers}
 use Rattle.engine.specs.Entries.{Outcome, outcome, atNoLine, run}
-use Rattle.entries.specs.Vocabulary.Checked.{OnConfiguration}
+use Rattle.entries.specs.Vocabulary.Checked.{OnConfiguration, OnRun}
 
 -- a verdict with the cells and the answers afterwards, as run has them
 GivesAll : Outcome → Verdict → Cells → List ℤ → Type 0
@@ -27,20 +28,14 @@ gives-all : (o : Outcome) (v : Verdict) (c : Cells) (b : List ℤ) → o ≡ out
 unfolding GivesAll outcome
 gives-all o v c b e = (ap (λ (p : Outcome). p .verdict) (sym e), (ap (λ (p : Outcome). p .cells) (sym e), ap (λ (p : Outcome). p .answers) (sym e)))
 
-module _ (s : Text) (t : Table) (x : List ℕ) (c : Cells) (v : Verdict) (h : OnConfiguration s t x c v) (choices : List Choice) (b : List ℤ) where
-  -- refused before 13
-  pub run-refused : v .number ≢ accepted → (v ≡ run s c choices b .verdict) × ((c ≡ run s c choices b .cells) × (b ≡ run s c choices b .answers))
-  unfolding run GivesAll
-  run-refused n = gives-all _ v c b (h .refused n b _)
-
-  -- with the test of the lengths
-  with-lengths : v .number ≡ accepted → (test : Bool) → eqb (length b) (length choices) ≡ test
-      → run s c choices b ≡ elim test [
-        | true ↦ outcome (atNoLine accepted) (runCells (modelOf s) c choices) (runAnswers (modelOf s) c choices)
-        | false ↦ outcome (atNoLine answersDiffer) c b
-      ]
+-- with the test of the lengths
+module _ (s : Text) (t : Table) (x : List ℕ) (c : Cells) (v : Verdict) (h : OnConfiguration s t x c v) (z : v .number ≡ accepted) (choices : List Choice) (b : List ℤ) where
+  with-lengths : (test : Bool) → eqb (length b) (length choices) ≡ test → run s c choices b ≡ elim test [
+    | true ↦ outcome (atNoLine accepted) (runCells (modelOf s) c choices) (runAnswers (modelOf s) c choices)
+    | false ↦ outcome (atNoLine answersDiffer) c b
+  ]
   unfolding run
-  with-lengths z test e =
+  with-lengths test e =
       h .goes z b _
       ∙ ap
       (λ test. elim test [
@@ -49,19 +44,44 @@ module _ (s : Text) (t : Table) (x : List ℕ) (c : Cells) (v : Verdict) (h : On
       ])
       e
 
-  -- 13
-  pub run-differs : v .number ≡ accepted → length b ≢ length choices → (w : Verdict) → w ≡ atNoLine answersDiffer
-      → (w ≡ run s c choices b .verdict) × ((c ≡ run s c choices b .cells) × (b ≡ run s c choices b .answers))
-  unfolding GivesAll
-  run-differs z n w f = gives-all _ w c b (with-lengths z false (ne-eqb (length b) (length choices) n) ∙ ap (λ w. outcome w c b) (sym f))
+module _ (s : Text) (t : Table) (x : List ℕ) (c : Cells) (many answered : ℕ) (v : Verdict) (h : OnConfiguration s t x c v) where
+  -- refused before 13
+  pub before-lengths : v .number ≢ accepted → OnRun s t x c many answered v
+  unfolding run
+  before-lengths n = record {
+    refused = λ _ choices b _ _. h .refused n b _;
+    passed = λ z. absurd (n z);
+    goes = λ z. absurd (n z);
+  }
 
-  -- accepted
-  pub run-done : v .number ≡ accepted → length b ≡ length choices → (d : Cells) (a : List ℤ)
-      → (d ≡ runCells (modelOf s) c choices) × (a ≡ runAnswers (modelOf s) c choices)
+  -- 13
+  pub lengths-differ : v .number ≡ accepted → answered ≢ many → (w : Verdict) → w ≡ atNoLine answersDiffer → OnRun s t x c many answered w
+  unfolding atNoLine
+  lengths-differ z n w f =
+      let no : w .number ≢ accepted = λ z. let y : w .number ≡ answersDiffer = ap (λ (v : Verdict). v .number) f in omega arith in
+      record {
+        refused = λ _ choices b e g. with-lengths s t x c v h z choices b false (ne-eqb _ _ (λ l. n (sym g ∙ l ∙ e))) ∙ ap (λ w. outcome w c b) (sym f);
+        passed = λ z. absurd (no z);
+        goes = λ z. absurd (no z);
+      }
+
+  -- as many
+  pub lengths-same : v .number ≡ accepted → answered ≡ many → OnRun s t x c many answered v
+  lengths-same z same =
+      let p = h .passed z in
+      record {
+        refused = λ n. absurd (n z);
+        passed = λ _. (p .1, p .2, same);
+        goes = λ _ choices b e g. with-lengths s t x c v h z choices b true (eq-eqb _ _ (g ∙ same ∙ sym e)) ∙ ap (λ w. outcome w (runCells (modelOf s) c choices) (runAnswers (modelOf s) c choices)) (sym (p .0));
+      }
+
+-- what run gives, by the verdict of its tests: its own verdict, and the cells and the answers afterwards
+module _ (s : Text) (t : Table) (x : List ℕ) (c : Cells) (choices : List Choice) (b : List ℤ) (v : Verdict) (h : OnRun s t x c (length choices) (length b) v) where
+  pub run-refused : v .number ≢ accepted → (v ≡ run s c choices b .verdict) × ((c ≡ run s c choices b .cells) × (b ≡ run s c choices b .answers))
+  unfolding GivesAll
+  run-refused n = gives-all _ v c b (h .refused n choices b refl refl)
+
+  pub run-done : v .number ≡ accepted → (d : Cells) (a : List ℤ) → (d ≡ runCells (modelOf s) c choices) × (a ≡ runAnswers (modelOf s) c choices)
       → (v ≡ run s c choices b .verdict) × ((d ≡ run s c choices b .cells) × (a ≡ run s c choices b .answers))
   unfolding GivesAll
-  run-done z e d a done =
-      gives-all _ v d a
-      (with-lengths z true (eq-eqb (length b) (length choices) e)
-      ∙ ap₂ (outcome (atNoLine accepted)) (sym (done .0)) (sym (done .1))
-      ∙ ap (λ w. outcome w d a) (sym (h .passed z .0)))
+  run-done z d a done = gives-all _ v d a (h .goes z choices b refl refl ∙ ap₂ (outcome v) (sym (done .0)) (sym (done .1)))

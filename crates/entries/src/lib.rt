@@ -11,7 +11,9 @@ use whole::refusals;
 ghost use mathlib.Core.Path.{_≡_};
 ghost use lib.IntN.{pos};
 ghost use lib.ListN.{length, replicate};
+ghost use Rattle.whole.specs.Refusals as Refusals;
 ghost use Rattle.layout.specs.Layout as Layout;
+ghost use Rattle.model.specs.Vocabulary.Known as Known;
 ghost use Rattle.model.specs.Vocabulary.Table as Table;
 ghost use Rattle.cells.specs.Fresh.{fresh};
 ghost use Rattle.engine.specs.Entries as Entries;
@@ -90,6 +92,20 @@ fn on_configuration(text: &[u8], table: &mut [u32], shapes: &mut [u8], cells: &[
     }
 }
 
+// Start, with the table and the shapes in memory that is lent: of an accepted text they serve the steps after it.
+pub fn start_in(text: &[u8], table: &mut [u32], shapes: &mut [u8], cells: &mut [i32]) -> Verdict
+    requires { ⌜ Table.Sized (now table) (now shapes) ⌝ }
+    ensures { λ r. ⌜ r ≡ Entries.start (now (text .entry)) (now (cells .entry)) .verdict ⌝ }
+    ensures { λ _. ⌜ now (cells .exit) ≡ Entries.start (now (text .entry)) (now (cells .entry)) .cells ⌝ }
+    ensures { λ r. ⌜ (r .number ≡ Refusals.accepted → Known.Known (now (text .entry)) (now (table .exit)) (now (shapes .exit))) ⌝ }
+{
+    let verdict = on_model(text, table, shapes, cells);
+    if verdict.number == refusals::ACCEPTED {
+        write_fresh(cells);
+    }
+    verdict
+}
+
 // Start: every cell is written, whatever it held.
 pub fn start(text: &[u8], cells: &mut [i32]) -> Verdict
     ensures { λ r. ⌜ r ≡ Entries.start (now (text .entry)) (now (cells .entry)) .verdict ⌝ }
@@ -97,11 +113,7 @@ pub fn start(text: &[u8], cells: &mut [i32]) -> Verdict
 {
     let mut rows = [0; table::SIZE];
     let mut shapes = [0; table::LINES];
-    let verdict = on_model(text, &mut rows, &mut shapes, cells);
-    if verdict.number == refusals::ACCEPTED {
-        write_fresh(cells);
-    }
-    verdict
+    start_in(text, &mut rows, &mut shapes, cells)
 }
 
 // Step: one choice, whose answer is the entry's own.

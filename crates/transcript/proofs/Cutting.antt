@@ -1,5 +1,5 @@
 -- An input cut at its LFs: its first line and the choices behind it. Assumes nothing.
-use Prim.Native.Nat.{ℕ, suc, _+_, _-_, _*_, _≤_, _<_}
+use Prim.Native.Nat.{ℕ, suc, _+_, _-_, _≤_, _<_}
 use mathlib.Core.Bool.{Bool, true, false}
 use mathlib.Core.List.{List, [], _∷_, map}
 use mathlib.Core.Path.{_≡_, refl, sym, ap, _∙_}
@@ -7,17 +7,15 @@ use native.Mathlib.Numerals.{add-one}
 use native.Mathlib.Omega.{arith}
 use borrow.Author.Tests.{eq-eqb, ne-eqb}
 use lib.Dec.{eqb}
-use lib.IntN.{ℤ}
 use lib.ListN.{length, take, drop, drop-of-length-le}
-use lib.Seq.{sets, drop-cons, drop-drop, take-all}
+use lib.Seq.{drop-cons, drop-drop}
 use Rattle.terms.specs.Bytes.{Text, byteAt}
 use Rattle.model.specs.Lines.{Line, terminated, unterminated, grown, lines, content, lineFeed}
 use Rattle.model.proofs.Cutting.{lines-first, lines-later, grown-none, grown-whole, grown-unended, lines-none}
 use Rattle.rules.specs.declared.Choice.{Choice}
 use Rattle.rules.specs.Kinds.{kinds}
 use Rattle.session.specs.Choices.{choiceOf, longestInput, choicesFrom}
-use Rattle.transcript.specs.Vocabulary.InputLines.{lineLength, choicesIn, flat}
-use Rattle.transcript.proofs.Storing.{sets-after}
+use Rattle.transcript.specs.Vocabulary.InputLines.{lineLength}
 
 -- a first byte that is an LF, or not
 module _ (b : ℕ) (s : Text) where
@@ -95,6 +93,10 @@ first-line b (a ∷ s) = go (eqb b lineFeed) refl (first-line a s)
           holds = rw (length-more b (a ∷ s) e) (g .2 ∙ ap (λ t. b ∷ t) (f .holds));
         }
 
+-- the choices of an input that is read to its end
+unfoldable pub choicesIn : Text → List Choice
+choicesIn input = map (λ l. choiceOf kinds (content l)) (lines input)
+
 -- the choice of the first line, and those behind it
 choices-first : (b : ℕ) (s : Text)
     → choicesIn (b ∷ s) ≡ choiceOf kinds (take (lineLength (b ∷ s)) (b ∷ s)) ∷ choicesIn (drop (suc (lineLength (b ∷ s))) (b ∷ s))
@@ -123,31 +125,7 @@ module _ (s : Text) (at : ℕ) where
   pub choices-ended : length s ≤ at → choicesIn (drop at s) ≡ []
   choices-ended h = ap choicesIn (drop-of-length-le s h) ∙ choices-none
 
--- two numbers to a choice
-pub flat-length : (ks : List Choice) → length (flat ks) ≡ length ks * 2
-unfolding flat
-flat-length [] = refl
-flat-length (k ∷ ks) = let e = flat-length ks in omega arith
-
--- a choice stored before those behind it
-module _ (old : List ℤ) (count : ℕ) where
-  pub stored-more : (k : Choice) (ks : List Choice)
-      → sets (sets old (count * 2) (k .kind ∷ k .number ∷ [])) ((count + 1) * 2) (flat ks) ≡ sets old (count * 2) (flat (k ∷ ks))
-  unfolding flat
-  stored-more k ks =
-      let n : (count + 1) * 2 ≡ count * 2 + 2 = omega arith in
-      ap (λ m. sets (sets old (count * 2) (k .kind ∷ k .number ∷ [])) m (flat ks)) n ∙ sets-after old (k .kind ∷ k .number ∷ []) (flat ks) (count * 2)
-
-  pub stored-none : sets old count (flat []) ≡ old
-  unfolding flat
-  stored-none = refl
-
--- the choices of an input: those of what is read of it
-module _ (input : Text) where
-  pub read-whole : length input ≤ longestInput → choicesFrom input ≡ choicesIn input
-  unfolding choicesFrom choicesIn
-  read-whole h = ap choicesIn (take-all longestInput input h)
-
-  pub read-part : choicesFrom input ≡ choicesIn (take longestInput input)
-  unfolding choicesFrom choicesIn
-  read-part = refl
+-- the choices of an input are those of the part that is read
+pub of-part-read : (input : Text) → choicesFrom input ≡ choicesIn (take longestInput input)
+unfolding choicesFrom choicesIn
+of-part-read input = refl

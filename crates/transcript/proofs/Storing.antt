@@ -1,12 +1,12 @@
 -- Items stored one after another: a run of stores behind another, and what is at the front. Assumes nothing.
 use Prim.Native.Nat.{ℕ, suc, _+_, _-_, _≤_, _<_}
 use mathlib.Core.List.{List, [], _∷_, _++_}
-use mathlib.Core.Path.{_≡_, sym, ap, subst, _∙_}
+use mathlib.Core.Path.{_≡_, sym, ap, ap₂, subst, _∙_}
 use native.Mathlib.Nat.{zero-add}
 use native.Mathlib.Numerals.{add-one}
 use native.Mathlib.Omega.{arith}
-use lib.ListN.{length, take, drop, getD, set, drop-of-length-le, length-append, length-drop}
-use lib.Seq.{sets, sets-eq, set-split, drop-cons, drop-at, take-at, length-take-le, take-all}
+use lib.ListN.{length, take, drop, getD, set, drop-of-length-le, length-append, length-drop, take-append-drop}
+use lib.Seq.{sets, sets-eq, set-split, drop-cons, drop-drop, drop-at, drop-set-lt, take-at, length-take-le, take-all}
 use Rattle.terms.specs.Bytes.{Text}
 use Rattle.transcript.specs.Vocabulary.Front.{atFront, Wrote}
 
@@ -25,9 +25,21 @@ module _ {A : Type 0} where
       sets-eq items old 0 (omega arith) ∙ ap (λ n. items ++ drop n old) (zero-add (length items))
 
   -- what is at the front can be taken from there
-  pub take-front : (items old : List A) (n : ℕ) → n ≡ length items → take n (atFront items old) ≡ items
+  pub take-front : (items old new : List A) (n : ℕ) → new ≡ atFront items old → n ≡ length items → take n new ≡ items
   unfolding atFront
-  take-front items old n e = take-at items (drop (length items) old) n (sym e)
+  take-front items old new n f e = ap (take n) f ∙ take-at items (drop (length items) old) n (sym e)
+
+  -- items stored one by one: what is behind them is as it was, after one more too
+  pub behind-stored : (old was new : List A) (i : ℕ) (a : A) → new ≡ set was i a → drop i was ≡ drop i old → drop (i + 1) new ≡ drop (i + 1) old
+  behind-stored old was new i a stored e =
+      ap (drop (i + 1)) stored ∙ drop-set-lt (i + 1) was i a (omega arith) ∙ sym (drop-drop 1 i was) ∙ ap (drop 1) e ∙ drop-drop 1 i old
+
+  -- and then they are at the front
+  pub stored-front : (items old new : List A) (n : ℕ) → n ≤ length new → take n new ≡ items → drop n new ≡ drop n old → (n ≡ length items) × (new ≡ atFront items old)
+  unfolding atFront
+  stored-front items old new n h front behind =
+      let k : n ≡ length items = sym (length-take-le n new h) ∙ ap length front in
+      (k, sym (take-append-drop n new) ∙ ap₂ _++_ front (behind ∙ ap (λ n. drop n old) k))
 
   -- the item at a place is stored before those behind it
   pub sets-onward : (old items : List A) (d : A) (at i : ℕ) → suc i ≤ length items

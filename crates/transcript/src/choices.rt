@@ -4,18 +4,15 @@ use terms::ReadNumber;
 use terms::ReadWord;
 use terms::leaves;
 use whole::Natural;
-ghost use mathlib.Core.List.{[], _∷_};
 ghost use mathlib.Core.Path.{_≡_};
-ghost use Prim.Native.Nat.{_+_, _*_, _≤_, _<_};
-ghost use lib.ListN.{length, drop};
-ghost use lib.Seq.{sets};
+ghost use Prim.Native.Nat.{_+_, _≤_, _<_};
+ghost use lib.ListN.{length, take, drop};
 ghost use Rattle.whole.specs.Vocabulary.Naturals as Naturals;
 ghost use Rattle.terms.specs.Bytes as Bytes;
 ghost use Rattle.terms.specs.Parsed as Parsed;
 ghost use Rattle.terms.specs.Vocabulary.Answers as Answers;
 ghost use Rattle.rules.specs.Kinds as Kinds;
 ghost use Rattle.session.specs.Choices as Choices;
-ghost use Rattle.transcript.specs.Vocabulary.Front as Front;
 ghost use Rattle.transcript.specs.Vocabulary.InputLines as InputLines;
 ghost use Rattle.transcript.specs.Vocabulary.KindNames as KindNames;
 
@@ -27,9 +24,6 @@ const MOST_DIGITS: usize = 9;
 
 // "exec O (kind 1)" to "deliver L (5)"
 const KINDS: u8 = 5;
-
-// A kind and a number for each of 4,096 choices: there are no more, since every line but the last has its LF.
-pub const ROOM: usize = 8192;
 
 // "A line of another form, or a number not 1 to 9 digits, is kind 0 with number 0."
 fn no_choice() -> Choice
@@ -103,7 +97,7 @@ fn kind_name(kind: u8, line: &[u8]) -> ReadWord
 }
 
 // The choice of a line: the first kind whose name it begins with.
-fn choice_of(line: &[u8]) -> Choice
+pub fn choice_of(line: &[u8]) -> Choice
     ensures { λ r. ⌜ r ≡ Choices.choiceOf Kinds.kinds (now (line .entry)) ⌝ }
 {
     let mut kind = 1;
@@ -117,7 +111,7 @@ fn choice_of(line: &[u8]) -> Choice
 }
 
 // Where the line that begins at a place ends: at its LF, or with the input.
-fn line_end(input: &[u8], at: usize) -> usize
+pub fn line_end(input: &[u8], at: usize) -> usize
     requires { ⌜ at ≤ length (now input) ⌝ }
     ensures { λ r. ⌜ r ≡ at + InputLines.lineLength (drop at (now (input .entry))) ⌝ }
 {
@@ -131,47 +125,13 @@ fn line_end(input: &[u8], at: usize) -> usize
     i
 }
 
-// A choice put behind some others.
-fn put_choice(choices: &mut [i32], count: usize, choice: Choice)
-    requires { ⌜ count * 2 + 2 ≤ length (now choices) ⌝ }
-    ensures { λ _. ⌜ now (choices .exit) ≡ sets (now (choices .entry)) (count * 2) (choice .kind ∷ choice .number ∷ []) ⌝ }
-{
-    let at = count * 2;
-    let kind = choice.kind;
-    let number = choice.number;
-    choices[at] = kind;
-    choices[at + 1] = number;
-}
-
-// The choices of an input that is read to its end, and how many there are.
-fn choices_in(input: &[u8], choices: &mut [i32]) -> usize
-    requires { ⌜ length (now input) ≤ Choices.longestInput ⌝ }
-    requires { ⌜ 8192 ≤ length (now choices) ⌝ }
-    ensures { λ r. ⌜ r ≡ length (InputLines.choicesIn (now (input .entry))) ⌝ }
-    ensures { λ _. ⌜ now (choices .exit) ≡ Front.atFront (InputLines.flat (InputLines.choicesIn (now (input .entry)))) (now (choices .entry)) ⌝ }
-    ensures { λ r. ⌜ r ≤ Choices.longestInput ⌝ }
-{
-    let mut count = 0;
-    let mut at = 0;
-    while at < input.len() {
-        let end = line_end(input, at);
-        put_choice(choices, count, choice_of(&input[at..end]));
-        count += 1;
-        at = end + 1;
-    }
-    count
-}
-
-// The choices of an input of any length, and how many there are: "Input past 4,096 bytes is not read".
-pub fn choices_from(input: &[u8], choices: &mut [i32]) -> usize
-    requires { ⌜ 8192 ≤ length (now choices) ⌝ }
-    ensures { λ r. ⌜ r ≡ length (Choices.choicesFrom (now (input .entry))) ⌝ }
-    ensures { λ _. ⌜ now (choices .exit) ≡ Front.atFront (InputLines.flat (Choices.choicesFrom (now (input .entry)))) (now (choices .entry)) ⌝ }
-    ensures { λ r. ⌜ r ≤ Choices.longestInput ⌝ }
+// "Input past 4,096 bytes is not read": the part that is.
+pub fn part_read(input: &[u8]) -> &[u8]
+    ensures { λ r. ⌜ now r ≡ take Choices.longestInput (now (input .entry)) ⌝ }
 {
     if input.len() > LONGEST_INPUT {
-        choices_in(&input[..LONGEST_INPUT], choices)
+        &input[..LONGEST_INPUT]
     } else {
-        choices_in(input, choices)
+        input
     }
 }

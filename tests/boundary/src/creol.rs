@@ -29,7 +29,7 @@ extern "C" {
         text_len: usize,
         cells: *mut i32,
         cells_len: usize,
-        choices: *const i32,
+        choices: *const Choice,
         choices_len: usize,
         answers: *mut i32,
         answers_len: usize,
@@ -83,24 +83,9 @@ pub fn step(text: &[u8], cells: &mut [i32], kind: i32, number: i32) -> Verdict {
 /// The library's run of these choices.
 #[cfg(have_creol)]
 pub fn run(text: &[u8], cells: &mut [i32], choices: &[Choice], answers: &mut [i32]) -> Verdict {
-    // SAFETY: a choice is two numbers one after the other, as `repr(C)` demands, so
-    // the choices are twice as many numbers in the same memory. These are read alone,
-    // and for no longer than the choices are borrowed.
-    let numbers = unsafe { std::slice::from_raw_parts(choices.as_ptr().cast(), 2 * choices.len()) };
-    run_numbers(text, cells, numbers, answers)
-}
-
-/// The library's run of choices that are numbers: kind and number, one after the
-/// other. An odd one at the end is no choice.
-#[cfg(have_creol)]
-pub fn run_numbers(
-    text: &[u8],
-    cells: &mut [i32],
-    numbers: &[i32],
-    answers: &mut [i32],
-) -> Verdict {
     // SAFETY: as for `start`, with four slices: the two that it writes are borrowed
-    // for it alone, so neither is a part of another. It demands nothing of the choices,
+    // for it alone, so neither is a part of another. A choice is a kind and then a
+    // number, as `repr(C)` demands of both sides. It demands nothing of the choices,
     // nor of how many there are, nor of how many answers.
     decoded(unsafe {
         creol_run(
@@ -108,8 +93,8 @@ pub fn run_numbers(
             text.len(),
             cells.as_mut_ptr(),
             cells.len(),
-            numbers.as_ptr(),
-            numbers.len(),
+            choices.as_ptr(),
+            choices.len(),
             answers.as_mut_ptr(),
             answers.len(),
         )

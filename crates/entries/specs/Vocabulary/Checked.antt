@@ -15,7 +15,9 @@ use Rattle.model.specs.Model.{Model}
 use Rattle.model.specs.Vocabulary.Known.{Known, modelOf}
 use Rattle.model.specs.Vocabulary.Table.{Table}
 use Rattle.cells.specs.Configuration.{isConfiguration}
-use Rattle.engine.specs.Entries.{Outcome, outcome, atNoLine, onModel, onConfiguration}
+use Rattle.rules.specs.declared.Choice.{Choice}
+use Rattle.engine.specs.Run.{runCells, runAnswers}
+use Rattle.engine.specs.Entries.{Outcome, outcome, atNoLine, onModel, onConfiguration, run}
 
 -- the text, then 10: refused, every entry gives this verdict and leaves what was lent; accepted, it goes on with the model
 pub record OnModel (s : Text) (t : Table) (x : List ℕ) (c : Cells) (v : Verdict) : Type 0 where
@@ -28,3 +30,10 @@ pub record OnConfiguration (s : Text) (t : Table) (x : List ℕ) (c : Cells) (v 
   pub refused : v .number ≢ accepted → (answers : List ℤ) (go : Model → Outcome) → onConfiguration s c answers go ≡ outcome v c answers
   pub passed : v .number ≡ accepted → (v ≡ atNoLine accepted) × Known s t x × (isConfiguration (modelOf s) c ≡ true)
   pub goes : v .number ≡ accepted → (answers : List ℤ) (go : Model → Outcome) → onConfiguration s c answers go ≡ go (modelOf s)
+
+-- then 13, by how many choices and answers there are: what run gives of any choices and answers that are so many
+pub record OnRun (s : Text) (t : Table) (x : List ℕ) (c : Cells) (many answered : ℕ) (v : Verdict) : Type 0 where
+  pub refused : v .number ≢ accepted → (choices : List Choice) (answers : List ℤ) → length choices ≡ many → length answers ≡ answered → run s c choices answers ≡ outcome v c answers
+  pub passed : v .number ≡ accepted → Known s t x × (isConfiguration (modelOf s) c ≡ true) × (answered ≡ many)
+  pub goes : v .number ≡ accepted → (choices : List Choice) (answers : List ℤ) → length choices ≡ many → length answers ≡ answered
+      → run s c choices answers ≡ outcome v (runCells (modelOf s) c choices) (runAnswers (modelOf s) c choices)

@@ -1,16 +1,15 @@
 //! The same lent to the library and to the independent engine.
 
-use boundary::creol::{run_numbers, Entries};
+use boundary::creol::{self, Entries};
 use boundary::lent::{shown, Lent};
 use independent::{Choice, Drive, Verdict};
 
-/// What a run begins with. The choices are numbers, of which an odd one at the end is
-/// no choice.
+/// What a run begins with.
 #[derive(Clone, Copy)]
 pub struct Run<'a> {
     pub text: &'a [u8],
     pub cells: &'a [i32],
-    pub numbers: &'a [i32],
+    pub choices: &'a [Choice],
     /// So many places are lent for answers.
     pub answers: usize,
 }
@@ -26,19 +25,18 @@ impl Run<'_> {
     /// Asks both engines. Panics where verdict, cells or answers differ, where a refusal
     /// has written any of them, or where something is written that is not lent.
     pub fn compare(self) -> Given {
-        let Run { text, numbers, .. } = self;
+        let Run { text, choices, .. } = self;
         let unwritten: Vec<i32> = (0..self.answers).map(unwritten).collect();
         let mut given = Given {
             verdict: Verdict::ACCEPTED,
             cells: self.cells.to_vec(),
             answers: unwritten.clone(),
         };
-        let choices = paired(numbers);
         given.verdict =
-            (Entries::INDEPENDENT.run)(text, &mut given.cells, &choices, &mut given.answers);
+            (Entries::INDEPENDENT.run)(text, &mut given.cells, choices, &mut given.answers);
         let mut cells = Lent::of(self.cells);
         let mut answers = Lent::of(&unwritten);
-        let verdict = run_numbers(text, cells.numbers_mut(), numbers, answers.numbers_mut());
+        let verdict = creol::run(text, cells.numbers_mut(), choices, answers.numbers_mut());
         let is_same = verdict == given.verdict
             && cells.numbers() == given.cells
             && answers.numbers() == given.answers;
@@ -49,7 +47,7 @@ impl Run<'_> {
             panic!(
                 "{verdict:?} in place of {:?}, kept around: {is_kept_around}\n{}{}",
                 given.verdict,
-                self.shown_answers(&choices, answers.numbers(), &given.answers),
+                self.shown_answers(answers.numbers(), &given.answers),
                 shown(self.cells, cells.numbers(), &given.cells, text),
             );
         }
@@ -57,11 +55,11 @@ impl Run<'_> {
     }
 
     /// The choices up to the first whose answers differ.
-    fn shown_answers(&self, choices: &[Choice], found: &[i32], expected: &[i32]) -> String {
-        let (numbers, answers) = (self.numbers.len(), self.answers);
-        let mut shown = format!("{numbers} numbers, {answers} answers\n");
+    fn shown_answers(&self, found: &[i32], expected: &[i32]) -> String {
+        let (choices, answers) = (self.choices.len(), self.answers);
+        let mut shown = format!("{choices} choices, {answers} answers\n");
         let answered = found.iter().zip(expected);
-        for (choice, (found, expected)) in choices.iter().zip(answered) {
+        for (choice, (found, expected)) in self.choices.iter().zip(answered) {
             shown += &format!("{choice:?}: {found}, expected {expected}\n");
             if found != expected {
                 break;
@@ -93,19 +91,4 @@ pub fn drive(text: &[u8], cells: &[i32], budget: u32) -> (Drive, Vec<i32>) {
 /// What stands in an answer's place before a run: no answer, and another in each.
 fn unwritten(place: usize) -> i32 {
     -1 - place as i32
-}
-
-/// The choices in numbers.
-pub fn paired(numbers: &[i32]) -> Vec<Choice> {
-    let choice = |pair: &[i32]| Choice {
-        kind: pair[0],
-        number: pair[1],
-    };
-    numbers.chunks_exact(2).map(choice).collect()
-}
-
-/// Choices as numbers.
-pub fn numbers(choices: &[Choice]) -> Vec<i32> {
-    let numbers = |choice: &Choice| [choice.kind, choice.number];
-    choices.iter().flat_map(numbers).collect()
 }

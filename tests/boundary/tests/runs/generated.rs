@@ -8,7 +8,7 @@ use independent::generate::{self, Random};
 use independent::model::Model;
 use independent::TEXT_BYTES;
 
-use super::both::{numbers, Run};
+use super::both::Run;
 use super::tally::Tally;
 
 /// So many choices for a run: at times enough to fill the rows.
@@ -32,7 +32,7 @@ fn run_from(tally: &mut Tally, random: &mut Random, text: &[u8], cells: &[i32]) 
     let run = Run {
         text,
         cells,
-        numbers: &numbers(&list),
+        choices: &list,
         answers: list.len(),
     };
     assert!(tally.compare(run).verdict.is_accepted());

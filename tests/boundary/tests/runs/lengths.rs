@@ -1,13 +1,11 @@
-//! Numbers of choices and of answers: none, odd ones, and those that do not belong
-//! together.
+//! Numbers of choices and of answers: none, and those that do not belong together.
 
-use boundary::creol::EXEC;
 use boundary::lists::{list, started};
 use boundary::models;
 use boundary::session::{CHOICES, MODEL};
 use independent::generate::Random;
 
-use super::both::{numbers, Run};
+use super::both::Run;
 use super::tally::Tally;
 
 /// Numbers of answers that are not the right one; the last is where it is cut to 16 bits.
@@ -30,21 +28,18 @@ fn other_lengths(right: usize) -> Vec<usize> {
 fn answers_of_another_length() {
     let mut tally = Tally::default();
     let mut random = Random::new(26);
-    for _ in 0..400 {
+    for _ in 0..800 {
         let text = models::short(&mut random);
         let cells = started(&text);
         let length = random.below(40);
-        let list = numbers(&list(&mut random, &text, &cells, length, 40));
-        for cut in [0, 1] {
-            let numbers = &list[..list.len().saturating_sub(cut)];
-            for answers in other_lengths(numbers.len() / 2) {
-                tally.compare(Run {
-                    text: &text,
-                    cells: &cells,
-                    numbers,
-                    answers,
-                });
-            }
+        let list = list(&mut random, &text, &cells, length, 40);
+        for answers in other_lengths(length) {
+            tally.compare(Run {
+                text: &text,
+                cells: &cells,
+                choices: &list,
+                answers,
+            });
         }
     }
     println!("{tally:#?}");
@@ -52,32 +47,31 @@ fn answers_of_another_length() {
     tally.demand_refused(&[13], tally.runs);
 }
 
-/// The number behind the odd one, which would make it a choice, is not lent.
+/// The choice behind the last one is not lent: it is not taken, and it does not count.
 #[test]
-fn an_odd_number_at_the_end() {
+fn a_list_cut_by_one() {
     let mut tally = Tally::default();
     let mut random = Random::new(27);
     for _ in 0..2_000 {
         let text = models::short(&mut random);
         let cells = started(&text);
         let length = random.between(1, 60);
-        let list = numbers(&list(&mut random, &text, &cells, length, 20));
-        let run = |numbers, answers| Run {
+        let list = list(&mut random, &text, &cells, length, 20);
+        let run = |choices, answers| Run {
             text: &text,
             cells: &cells,
-            numbers,
+            choices,
             answers,
         };
-        let odd = &list[..list.len() - 1];
-        let given = tally.compare(run(odd, length - 1));
+        let cut = &list[..length - 1];
+        let given = tally.compare(run(cut, length - 1));
         assert!(given.verdict.is_accepted());
-        let even = tally.compare(run(&list[..list.len() - 2], length - 1));
-        assert!((given.cells, given.answers) == (even.cells, even.answers));
-        assert_eq!(tally.compare(run(odd, length)).verdict.number, 13);
+        assert_eq!(tally.compare(run(cut, length)).verdict.number, 13);
+        assert_eq!(tally.compare(run(&list, length - 1)).verdict.number, 13);
     }
     println!("{tally:#?}");
-    assert!(tally.choices >= 100_000, "{tally:#?}");
-    tally.demand_refused(&[13], 2_000);
+    assert!(tally.choices >= 50_000, "{tally:#?}");
+    tally.demand_refused(&[13], 4_000);
 }
 
 #[test]
@@ -87,19 +81,17 @@ fn no_choice() {
     for _ in 0..500 {
         let text = models::short(&mut random);
         let cells = started(&text);
-        for numbers in [[].as_slice(), &[EXEC]] {
-            let run = |answers| Run {
-                text: &text,
-                cells: &cells,
-                numbers,
-                answers,
-            };
-            let given = tally.compare(run(0));
-            assert!(given.verdict.is_accepted() && given.cells == cells);
-            assert_eq!(tally.compare(run(1)).verdict.number, 13);
-        }
+        let run = |answers| Run {
+            text: &text,
+            cells: &cells,
+            choices: &[],
+            answers,
+        };
+        let given = tally.compare(run(0));
+        assert!(given.verdict.is_accepted() && given.cells == cells);
+        assert_eq!(tally.compare(run(1)).verdict.number, 13);
     }
-    assert_eq!((tally.runs, tally.choices), (2_000, 0));
+    assert_eq!((tally.runs, tally.choices), (1_000, 0));
 }
 
 /// The session's list, cut anywhere, with every number of answers up to one too many.
@@ -108,21 +100,19 @@ fn the_session_cut_anywhere() {
     let mut tally = Tally::default();
     let text = MODEL.as_bytes();
     let cells = started(text);
-    let list = numbers(&CHOICES);
-    for end in 0..=list.len() {
-        for answers in 0..=end / 2 + 1 {
-            let numbers = &list[..end];
+    for end in 0..=CHOICES.len() {
+        for answers in 0..=end + 1 {
             let verdict = tally
                 .compare(Run {
                     text,
                     cells: &cells,
-                    numbers,
+                    choices: &CHOICES[..end],
                     answers,
                 })
                 .verdict;
-            assert_eq!(verdict.is_accepted(), answers == end / 2);
+            assert_eq!(verdict.is_accepted(), answers == end);
         }
     }
     println!("{tally:#?}");
-    assert_eq!(tally.runs - tally.refused[&13], list.len() + 1);
+    assert_eq!(tally.runs - tally.refused[&13], CHOICES.len() + 1);
 }

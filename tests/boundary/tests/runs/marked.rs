@@ -7,14 +7,14 @@ use boundary::texts::alone;
 use independent::configuration::CELLS;
 use independent::{Drive, Verdict};
 
-use super::both::{drive, numbers, Run};
+use super::both::{drive, Run};
 
 /// The answers, and the cells, of the session's choices in this text.
 fn session_in(text: &str) -> (Vec<i32>, Vec<i32>) {
     let given = Run {
         text: text.as_bytes(),
         cells: &started(text.as_bytes()),
-        numbers: &numbers(&CHOICES),
+        choices: &CHOICES,
         answers: CHOICES.len(),
     }
     .compare();
@@ -84,7 +84,7 @@ fn texts() {
         let given = Run {
             text: text.as_bytes(),
             cells: &[7; CELLS],
-            numbers: &numbers(&CHOICES),
+            choices: &CHOICES,
             answers: CHOICES.len(),
         }
         .compare();

@@ -6,12 +6,13 @@ use boundary::lists::{list, started};
 use boundary::models;
 use boundary::session::{CHOICES, MODEL};
 use independent::generate::{self, Random};
+use independent::Choice;
 
-use super::both::{numbers, Run};
+use super::both::Run;
 use super::tally::Tally;
 
 /// A text, cells that a walk in it reached, and a list of choices from there on.
-fn reached(random: &mut Random) -> (Vec<u8>, Vec<i32>, Vec<i32>) {
+fn reached(random: &mut Random) -> (Vec<u8>, Vec<i32>, Vec<Choice>) {
     let text = models::short(random);
     let mut cells = started(&text);
     let walked = random.below(60);
@@ -19,14 +20,14 @@ fn reached(random: &mut Random) -> (Vec<u8>, Vec<i32>, Vec<i32>) {
     independent::run(&text, &mut cells, &walk, &mut vec![0; walked]);
     let length = random.between(1, 40);
     let list = list(random, &text, &cells, length, 40);
-    (text, cells, numbers(&list))
+    (text, cells, list)
 }
 
 /// As many answers as there are choices, or another number of them.
-fn answers(random: &mut Random, numbers: &[i32]) -> usize {
+fn answers(random: &mut Random, choices: &[Choice]) -> usize {
     match random.percent(50) {
-        true => numbers.len() / 2,
-        false => random.below(numbers.len() + 2),
+        true => choices.len(),
+        false => random.below(2 * choices.len() + 2),
     }
 }
 
@@ -36,7 +37,7 @@ fn other_texts() {
     let mut tally = Tally::default();
     let mut random = Random::new(29);
     for _ in 0..1_500 {
-        let (text, cells, numbers) = reached(&mut random);
+        let (text, cells, choices) = reached(&mut random);
         for index in 0..20 {
             let other = match index {
                 0 => models::short(&mut random),
@@ -45,8 +46,8 @@ fn other_texts() {
             tally.compare(Run {
                 text: &other,
                 cells: &cells,
-                numbers: &numbers,
-                answers: answers(&mut random, &numbers),
+                choices: &choices,
+                answers: answers(&mut random, &choices),
             });
         }
     }
@@ -62,15 +63,15 @@ fn other_lengths() {
     let mut tally = Tally::default();
     let mut random = Random::new(30);
     for _ in 0..500 {
-        let (text, mut cells, numbers) = reached(&mut random);
+        let (text, mut cells, choices) = reached(&mut random);
         let damaged = generate::damaged_text(&mut random, &text);
         for length in OTHER_LENGTHS {
             cells.resize(length, 0);
             let mut run = Run {
                 text: &text,
                 cells: &cells,
-                numbers: &numbers,
-                answers: answers(&mut random, &numbers),
+                choices: &choices,
+                answers: answers(&mut random, &choices),
             };
             assert_eq!(tally.compare(run).verdict.number, 10);
             run.text = &damaged;
@@ -89,14 +90,14 @@ fn damaged_cells() {
     let mut tally = Tally::default();
     let mut random = Random::new(31);
     for _ in 0..1_500 {
-        let (text, cells, numbers) = reached(&mut random);
+        let (text, cells, choices) = reached(&mut random);
         for _ in 0..12 {
             let cells = damaged(&mut random, &cells);
             tally.compare(Run {
                 text: &text,
                 cells: &cells,
-                numbers: &numbers,
-                answers: answers(&mut random, &numbers),
+                choices: &choices,
+                answers: answers(&mut random, &choices),
             });
         }
     }
@@ -117,7 +118,7 @@ fn the_session_cut_anywhere() {
         tally.compare(Run {
             text: &session[..end],
             cells: &cells,
-            numbers: &numbers(&CHOICES),
+            choices: &CHOICES,
             answers: CHOICES.len(),
         });
     }

@@ -5,7 +5,7 @@ use std::collections::BTreeMap;
 use boundary::choices::OF_A_CHOICE;
 use independent::Choice;
 
-use super::both::{paired, Given, Run};
+use super::both::{Given, Run};
 
 /// The runs that were compared, by what they gave.
 #[derive(Debug, Default)]
@@ -27,7 +27,7 @@ impl Tally {
         let given = run.compare();
         self.runs += 1;
         match given.verdict.number {
-            0 => self.note(&paired(run.numbers), &given.answers),
+            0 => self.note(run.choices, &given.answers),
             number => *self.refused.entry(number).or_default() += 1,
         }
         given

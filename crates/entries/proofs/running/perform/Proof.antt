@@ -1,0 +1,54 @@
+-- `entries::running::perform` meets its contract. Assumes nothing.
+use Prim.Native.Nat.{_≤_}
+use borrow.Author.Needs.{needs}
+use denote.Ref.{now}
+use lib.IntN.{pos}
+use lib.ListN.{set}
+use mathlib.Core.Path.{_≡_, sym, ap, subst, _∙_}
+use mir.Syntax.{w32}
+use mir.Val.{toZ}
+use mir.ValLaws.{toZ-pos}
+use native.Mathlib.Omega.{arith}
+use Rattle.entries.proofs.Refusing.{answer-small}
+use Rattle.entries.proofs.running.perform.Statement.{statement}
+use Rattle.entries.proofs.running.perform.Tie as tie
+
+next-requires : tie.Need-next-requires
+next-requires c κs = search needs
+
+-- the answer to a choice is small
+small : (c : tie.After-next) → c .next .result ≤ 33
+small c = subst (_≤ 33) (sym (c .next .ensures .0)) (answer-small _ _ _)
+
+cast-answers : tie.Need-cast-answers
+cast-answers c = record { sfits = omega (arith, small (c .before)) }
+
+mul-t12 : tie.Need-mul-t12
+mul-t12 c = search needs
+
+slice-set-from-answers : tie.Need-slice-set-from-answers
+slice-set-from-answers c = search needs
+
+same-length : tie.Need-same-length
+same-length c = search needs
+
+same-length-2 : tie.Need-same-length-2
+same-length-2 c = search needs
+
+returns : tie.Need-returns
+returns c =
+    let a = c .before .before .before .before .before .before .args in
+    let told : toZ w32 (c .before .next .result) ≡ pos (c .before .next .result) = toZ-pos w32 _ (omega (arith, small (c .before))) in
+    (c .before .next .ensures .1, ap (set (now (a .answers)) (a .i)) (told ∙ ap pos (c .before .next .ensures .0)))
+
+pub perform-spec : {M : Type 1} → statement M
+perform-spec =
+    tie.close
+    (tie.spec
+    next-requires
+    cast-answers
+    mul-t12
+    slice-set-from-answers
+    same-length
+    same-length-2
+    returns)
