@@ -120,7 +120,7 @@ fn line_holds(cells: &[i32], l: Label, shape: u8) -> bool
 }
 
 // "From stage 3 the callee's class has the method, args is its params, line is inside it, v cells from locals on are 0."
-fn bound_holds(text: &[u8], table: &[u32], shapes: &[u8], cells: &[i32], l: Label) -> bool
+fn bound_holds(text: &[u8], table: &[u16], shapes: &[u8], cells: &[i32], l: Label) -> bool
     requires { ⌜ Known.Known (now text) (now table) (now shapes) ⌝ }
     requires { ⌜ Stages.objectsInUse (now cells) ≤ Layout.objectRows ⌝ }
     requires { ⌜ Whole.between (pos 1) (Layout.read (now cells) Layout.objects) (Layout.ofCall (now cells) (l .0) Layout.callee) ≡ true ⌝ }
@@ -140,7 +140,7 @@ fn bound_holds(text: &[u8], table: &[u32], shapes: &[u8], cells: &[i32], l: Labe
 }
 
 // "Caller 0 stands only in stages 3, 4 and 7, with method 0 of a class with run 1."
-fn callerless_holds(table: &[u32], cells: &[i32], o: ObjectNumber, l: Label) -> bool
+fn callerless_holds(table: &[u16], cells: &[i32], o: ObjectNumber, l: Label) -> bool
     requires { ⌜ Found.Told (now table) ⌝ }
     requires { ⌜ Layout.ofCall (now cells) (l .0) Layout.callee ≡ pos (o .0) ⌝ }
     ensures { λ r. ⌜ ((s : Text) (m : Model) → Belongs s (now (table .entry)) m → r ≡ Configuration.callerlessHolds m (now (cells .entry)) (l .0)) ⌝ }
@@ -185,7 +185,7 @@ fn marks_hold(cells: &[i32], l: Label) -> bool
 }
 
 // From stage 3 on, and before it.
-fn stage_holds(text: &[u8], table: &[u32], shapes: &[u8], cells: &[i32], l: Label) -> bool
+fn stage_holds(text: &[u8], table: &[u16], shapes: &[u8], cells: &[i32], l: Label) -> bool
     requires { ⌜ Known.Known (now text) (now table) (now shapes) ⌝ }
     requires { ⌜ Stages.objectsInUse (now cells) ≤ Layout.objectRows ⌝ }
     requires { ⌜ Whole.between (pos 1) (Layout.read (now cells) Layout.objects) (Layout.ofCall (now cells) (l .0) Layout.callee) ≡ true ⌝ }
@@ -199,7 +199,7 @@ fn stage_holds(text: &[u8], table: &[u32], shapes: &[u8], cells: &[i32], l: Labe
 }
 
 // All that must hold of a call in use.
-pub fn call_holds(text: &[u8], table: &[u32], shapes: &[u8], cells: &[i32], l: Label) -> bool
+pub fn call_holds(text: &[u8], table: &[u16], shapes: &[u8], cells: &[i32], l: Label) -> bool
     requires { ⌜ Known.Known (now text) (now table) (now shapes) ⌝ }
     requires { ⌜ Stages.objectsInUse (now cells) ≤ Layout.objectRows ⌝ }
     ensures { λ r. ⌜ r ≡ Configuration.callHolds (Known.modelOf (now (text .entry))) (now (cells .entry)) (l .0) ⌝ }

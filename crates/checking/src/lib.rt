@@ -21,7 +21,7 @@ pub mod calls;
 pub mod objects;
 
 // What holds of each object in use.
-fn all_objects(table: &[u32], cells: &[i32], objects: usize) -> bool
+fn all_objects(table: &[u16], cells: &[i32], objects: usize) -> bool
     requires { ⌜ Found.Told (now table) ⌝ }
     requires { ⌜ objects ≤ Layout.objectRows ⌝ }
     ensures { λ r. ⌜ ((s : Text) (m : Model) → Belongs s (now (table .entry)) m → r ≡ allTo objects (Configuration.objectHolds m (now (cells .entry)))) ⌝ }
@@ -37,7 +37,7 @@ fn all_objects(table: &[u32], cells: &[i32], objects: usize) -> bool
 }
 
 // What holds of each call in use.
-fn all_calls(text: &[u8], table: &[u32], shapes: &[u8], cells: &[i32], calls: usize) -> bool
+fn all_calls(text: &[u8], table: &[u16], shapes: &[u8], cells: &[i32], calls: usize) -> bool
     requires { ⌜ Known.Known (now text) (now table) (now shapes) ⌝ }
     requires { ⌜ calls ≤ Layout.callRows ⌝ }
     requires { ⌜ Stages.objectsInUse (now cells) ≤ Layout.objectRows ⌝ }
@@ -65,7 +65,7 @@ fn counts_hold(cells: &[i32]) -> bool
 }
 
 // Whether cells, as many as a configuration has, are one of the model.
-pub fn is_configuration(text: &[u8], table: &[u32], shapes: &[u8], cells: &[i32]) -> bool
+pub fn is_configuration(text: &[u8], table: &[u16], shapes: &[u8], cells: &[i32]) -> bool
     requires { ⌜ Known.Known (now text) (now table) (now shapes) ⌝ }
     requires { ⌜ length (now cells) ≡ Layout.allCells ⌝ }
     ensures { λ r. ⌜ r ≡ Configuration.isConfiguration (Known.modelOf (now (text .entry))) (now (cells .entry)) ⌝ }

@@ -49,7 +49,7 @@ fn running_named(cells: &[i32], o: ObjectNumber) -> bool
 }
 
 // "each class exists; attributes from attrs on are 0"
-pub fn object_holds(table: &[u32], cells: &[i32], o: ObjectNumber) -> bool
+pub fn object_holds(table: &[u16], cells: &[i32], o: ObjectNumber) -> bool
     requires { ⌜ Found.Told (now table) ⌝ }
     ensures { λ r. ⌜ ((s : Text) (m : Model) → Belongs s (now (table .entry)) m → r ≡ Configuration.objectHolds m (now (cells .entry)) (o .0)) ⌝ }
 {

@@ -45,7 +45,7 @@ fn in_use(cells: &[i32], kind: u8) -> usize
 // The first accepted choice of a kind, from 1 to a number, is performed; none, and nothing is written.
 fn first_of(
     text: &[u8],
-    table: &[u32],
+    table: &[u16],
     shapes: &[u8],
     cells: &mut [i32],
     kind: u8,
@@ -71,7 +71,7 @@ fn first_of(
 }
 
 // The first accepted choice in an order of the kinds is performed.
-fn first_in(text: &[u8], table: &[u32], shapes: &[u8], cells: &mut [i32], order: &[u8]) -> bool
+fn first_in(text: &[u8], table: &[u16], shapes: &[u8], cells: &mut [i32], order: &[u8]) -> bool
     requires { ⌜ Known.Known (now text) (now table) (now shapes) ⌝ }
     requires { ⌜ isConfiguration (Known.modelOf (now text)) (now cells) ≡ true ⌝ }
     ensures { λ r. ⌜ Searched.First (Known.modelOf (now (text .entry))) (now (cells .entry)) (Drive.choicesIn (Searched.kindsOf (now (order .entry))) (now (cells .entry))) r (now (cells .exit)) ⌝ }
@@ -91,7 +91,7 @@ fn first_in(text: &[u8], table: &[u32], shapes: &[u8], cells: &mut [i32], order:
 // Accepted steps up to a budget: how many were taken. "It ends at the budget or when none is accepted."
 fn steps(
     text: &[u8],
-    table: &[u32],
+    table: &[u16],
     shapes: &[u8],
     cells: &mut [i32],
     order: &[u8],
@@ -126,7 +126,7 @@ fn copied(cells: &[i32], copy: &mut [i32])
 }
 
 // "quiet: yes exactly when no choice is accepted": asked of a copy of the cells.
-fn is_quiet(text: &[u8], table: &[u32], shapes: &[u8], cells: &[i32]) -> bool
+fn is_quiet(text: &[u8], table: &[u16], shapes: &[u8], cells: &[i32]) -> bool
     requires { ⌜ Known.Known (now text) (now table) (now shapes) ⌝ }
     requires { ⌜ isConfiguration (Known.modelOf (now text)) (now cells) ≡ true ⌝ }
     ensures { λ r. ⌜ r ≡ Drive.isQuiet (Known.modelOf (now (text .entry))) (now (cells .entry)) ⌝ }

@@ -57,7 +57,7 @@ fn write_fresh(cells: &mut [i32])
 }
 
 // The text, then 10: accepted, or the verdict that every entry then gives.
-fn on_model(text: &[u8], table: &mut [u32], shapes: &mut [u8], cells: &[i32]) -> Verdict
+fn on_model(text: &[u8], table: &mut [u16], shapes: &mut [u8], cells: &[i32]) -> Verdict
     requires { ⌜ Table.Sized (now table) (now shapes) ⌝ }
     ensures { λ r. ⌜ Checked.OnModel (now (text .entry)) (now (table .exit)) (now (shapes .exit)) (now (cells .entry)) r ⌝ }
 {
@@ -75,7 +75,7 @@ fn on_model(text: &[u8], table: &mut [u32], shapes: &mut [u8], cells: &[i32]) ->
 }
 
 // Then 11.
-fn on_configuration(text: &[u8], table: &mut [u32], shapes: &mut [u8], cells: &[i32]) -> Verdict
+fn on_configuration(text: &[u8], table: &mut [u16], shapes: &mut [u8], cells: &[i32]) -> Verdict
     requires { ⌜ Table.Sized (now table) (now shapes) ⌝ }
     ensures { λ r. ⌜ Checked.OnConfiguration (now (text .entry)) (now (table .exit)) (now (shapes .exit)) (now (cells .entry)) r ⌝ }
 {
@@ -93,7 +93,7 @@ fn on_configuration(text: &[u8], table: &mut [u32], shapes: &mut [u8], cells: &[
 }
 
 // Start, with the table and the shapes in memory that is lent: of an accepted text they serve the steps after it.
-pub fn start_in(text: &[u8], table: &mut [u32], shapes: &mut [u8], cells: &mut [i32]) -> Verdict
+pub fn start_in(text: &[u8], table: &mut [u16], shapes: &mut [u8], cells: &mut [i32]) -> Verdict
     requires { ⌜ Table.Sized (now table) (now shapes) ⌝ }
     ensures { λ r. ⌜ r ≡ Entries.start (now (text .entry)) (now (cells .entry)) .verdict ⌝ }
     ensures { λ _. ⌜ now (cells .exit) ≡ Entries.start (now (text .entry)) (now (cells .entry)) .cells ⌝ }

@@ -21,7 +21,7 @@ ghost use Rattle.entries.specs.Vocabulary.Checked as Checked;
 // One choice of a run: one step, with its answer in its own place.
 pub fn perform(
     text: &[u8],
-    table: &[u32],
+    table: &[u16],
     shapes: &[u8],
     cells: &mut [i32],
     answers: &mut [i32],
@@ -40,7 +40,7 @@ pub fn perform(
 // Each choice is one step.
 fn run_choices(
     text: &[u8],
-    table: &[u32],
+    table: &[u16],
     shapes: &[u8],
     cells: &mut [i32],
     choices: &[Choice],
@@ -62,7 +62,7 @@ fn run_choices(
 // The text, 10 and 11, then 13, by how many choices and answers there are.
 fn on_run(
     text: &[u8],
-    table: &mut [u32],
+    table: &mut [u16],
     shapes: &mut [u8],
     cells: &[i32],
     choices: usize,

@@ -55,7 +55,7 @@ pub enum StandingFound {
 }
 
 // The class that a cell names.
-fn class_at(table: &[u32], z: i32) -> ClassFound
+fn class_at(table: &[u16], z: i32) -> ClassFound
     requires { ⌜ Found.Told (now table) ⌝ }
     ensures { λ r. ⌜ ((s : Text) (m : Model.Model) → Belongs s (now (table .entry)) m → Found.ClassSaid m z r) ⌝ }
 {
@@ -72,7 +72,7 @@ fn class_at(table: &[u32], z: i32) -> ClassFound
 }
 
 // An object's class.
-pub fn class_of(table: &[u32], cells: &[i32], o: ObjectNumber) -> ClassFound
+pub fn class_of(table: &[u16], cells: &[i32], o: ObjectNumber) -> ClassFound
     requires { ⌜ Found.Told (now table) ⌝ }
     ensures { λ r. ⌜ ((s : Text) (m : Model.Model) → Belongs s (now (table .entry)) m → Found.ClassSaid m (Layout.ofObject (now (cells .entry)) (o .0) Layout.class) r) ⌝ }
 {
@@ -80,7 +80,7 @@ pub fn class_of(table: &[u32], cells: &[i32], o: ObjectNumber) -> ClassFound
 }
 
 // A method of a class, if it takes so many arguments.
-fn takes(table: &[u32], class: u32, attrs: u32, method: u32, args: i32) -> BodyFound
+fn takes(table: &[u16], class: u32, attrs: u32, method: u32, args: i32) -> BodyFound
     requires { ⌜ Found.Told (now table) ⌝ }
     requires { ⌜ class < 16 ⌝ }
     requires { ⌜ method < 8 ⌝ }
@@ -100,7 +100,7 @@ fn takes(table: &[u32], class: u32, attrs: u32, method: u32, args: i32) -> BodyF
 }
 
 // "if the callee's class has the method with as many params as args": the method of a class.
-fn binds_to(table: &[u32], class: u32, method: i32, args: i32) -> BodyFound
+fn binds_to(table: &[u16], class: u32, method: i32, args: i32) -> BodyFound
     requires { ⌜ Found.Told (now table) ⌝ }
     requires { ⌜ class < Table.classesIn (now table) ⌝ }
     ensures { λ r. ⌜ ((s : Text) (m : Model.Model) (k : Model.Class) → Belongs s (now (table .entry)) m → getElem? m class ≡ some k → Found.BodySaid (now (table .entry)) m (Found.boundTo m class method args) r) ⌝ }
@@ -119,7 +119,7 @@ fn binds_to(table: &[u32], class: u32, method: i32, args: i32) -> BodyFound
 }
 
 // A call's body: the method that binding finds in its callee's class.
-pub fn body_of(table: &[u32], cells: &[i32], l: Label) -> BodyFound
+pub fn body_of(table: &[u16], cells: &[i32], l: Label) -> BodyFound
     requires { ⌜ Found.Told (now table) ⌝ }
     requires { ⌜ Stages.objectsInUse (now cells) ≤ Layout.objectRows ⌝ }
     requires { ⌜ Whole.between (pos 1) (Layout.read (now cells) Layout.objects) (Layout.ofCall (now cells) (l .0) Layout.callee) ≡ true ⌝ }
@@ -140,7 +140,7 @@ pub fn body_of(table: &[u32], cells: &[i32], l: Label) -> BodyFound
 }
 
 // Where a call stands: its body, and the line inside it.
-pub fn standing_of(table: &[u32], cells: &[i32], l: Label) -> StandingFound
+pub fn standing_of(table: &[u16], cells: &[i32], l: Label) -> StandingFound
     requires { ⌜ Found.Told (now table) ⌝ }
     requires { ⌜ Stages.objectsInUse (now cells) ≤ Layout.objectRows ⌝ }
     requires { ⌜ Whole.between (pos 1) (Layout.read (now cells) Layout.objects) (Layout.ofCall (now cells) (l .0) Layout.callee) ≡ true ⌝ }
@@ -165,7 +165,7 @@ pub fn standing_of(table: &[u32], cells: &[i32], l: Label) -> StandingFound
 }
 
 // A class of the model has run 1; one that is not there has not.
-pub fn class_runs(table: &[u32], class: u32) -> bool
+pub fn class_runs(table: &[u16], class: u32) -> bool
     requires { ⌜ Found.Told (now table) ⌝ }
     ensures { λ r. ⌜ ((s : Text) (m : Model.Model) → Belongs s (now (table .entry)) m → r ≡ classRuns m class) ⌝ }
 {

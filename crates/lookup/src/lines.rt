@@ -40,7 +40,7 @@ pub fn goes_to(shapes: &[u8], at: Standing) -> u32
 }
 
 // Its statement: the bytes that its row leads to, read with the values worked out.
-pub fn statement(text: &[u8], table: &[u32], cells: &[i32], here: Here, at: Standing) -> ReadCode
+pub fn statement(text: &[u8], table: &[u16], cells: &[i32], here: Here, at: Standing) -> ReadCode
     requires { ⌜ length (now table) ≡ Table.tableSize ⌝ }
     requires { ⌜ 0 < Table.classesIn (now table) ⌝ }
     requires { ⌜ at .body .first + at .line < 512 ⌝ }

@@ -1,8 +1,9 @@
 -- The number lines of a class and of a method, one after another: what is left to read after each. Assumes nothing.
-use Prim.Native.Nat.{ℕ, _-_, min}
-use mathlib.Core.Bool.{_&&_}
+use Prim.Native.Nat.{ℕ, _-_, _≤_, min}
+use mathlib.Core.Bool.{Bool, true, false, _&&_}
 use mathlib.Core.List.{List, []}
 use mathlib.Core.Path.{_≡_, refl}
+use native.Mathlib.Omega.{arith}
 use lib.Dec.{eqb}
 use Rattle.layout.specs.Layout.{mostAttributes, mostLocals}
 use Rattle.terms.specs.Bytes.{bytes}
@@ -11,6 +12,12 @@ use Rattle.model.specs.InOrder.{Reader, done, _>>=_, numberLine, each}
 use Rattle.model.specs.Lines.{Line}
 use Rattle.model.specs.Model.{Method, Class, Model}
 use Rattle.model.specs.ModelText.{SoFar, linesBegun, zeroIf, codeLine, readMethod, readClass, readModel}
+
+-- a range that is 0 on a test goes no further than without it
+pub most-if : (b : Bool) (n m : ℕ) → m ≡ zeroIf b n → m ≤ n
+unfolding zeroIf
+most-if true n m e = omega (arith, e)
+most-if false n m e = omega (arith, e)
 
 -- of a method, from its code back to its `params=`
 module _ (classes attrs : ℕ) (so : SoFar) where

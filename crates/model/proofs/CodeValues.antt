@@ -97,7 +97,7 @@ module _ (cells : Cells) (a : Around) (m : MethodHead) (l : a .limits ≡ limits
       class-below : (n : ℕ × ℕ) → newOf (told .code) ≡ some n → n .0 < 16
       class-below n f = omega (arith, new-class trees guardTrees (limitsOf m) (m .classes) value _ (told .code) n tree f some-class)
 
-      pub new-fits : length value ≤ 120 → (k n : ℕ) → newSaid said (r .arguments .count) ≡ some (k, n) → (k < 16) × (n < 65536)
+      pub new-fits : length value ≤ 120 → (k n : ℕ) → newSaid said (r .arguments .count) ≡ some (k, n) → (k < 16) × (n ≤ 121)
       new-fits h k n o =
           let new : newOf (told .code) ≡ some (k, n) = sym (told .creates) ∙ o in
           (class-below (k, n) new, omega (arith, new-count trees guardTrees (limitsOf m) (m .classes) value _ (told .code) (k, n) tree new))

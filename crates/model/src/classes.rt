@@ -16,7 +16,7 @@ ghost use Rattle.model.specs.Vocabulary.Table as Table;
 // So many methods, after so many code lines.
 fn all_methods(
     text: &[u8],
-    table: &mut [u32],
+    table: &mut [u16],
     shapes: &mut [u8],
     at: At,
     class: ClassHead,
@@ -47,7 +47,7 @@ fn all_methods(
 // A class by its index, after so many code lines.
 pub fn class(
     text: &[u8],
-    table: &mut [u32],
+    table: &mut [u16],
     shapes: &mut [u8],
     at: At,
     classes: u32,
@@ -91,7 +91,7 @@ pub fn class(
 }
 
 // So many classes.
-pub fn all_classes(text: &[u8], table: &mut [u32], shapes: &mut [u8], at: At, count: u32) -> Read
+pub fn all_classes(text: &[u8], table: &mut [u16], shapes: &mut [u8], at: At, count: u32) -> Read
     requires { ⌜ Table.Sized (now table) (now shapes) ⌝ }
     requires { ⌜ Readings.Placed (now text) at ⌝ }
     requires { ⌜ count ≤ 16 ⌝ }

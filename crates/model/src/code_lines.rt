@@ -71,13 +71,13 @@ fn standing(last: bool, shape: Shape, blocks: u32) -> BlocksAfter
 }
 
 // A `new` as one number, of its class and of how many arguments there are; 0 for a line that is none.
-fn new_number(new: NewFound) -> u32
-    requires { ⌜ ((k n : ℕ) → new ≡ New.Is k n → (k < 16) × (n < 65536)) ⌝ }
+fn new_number(new: NewFound) -> u16
+    requires { ⌜ ((k n : ℕ) → new ≡ New.Is k n → (k < 16) × (n ≤ 121)) ⌝ }
     ensures { λ r. ⌜ ((o : Option (ℕ × ℕ)) → new ≡ asNew o → r ≡ Creations.newNumber o) ⌝ }
 {
     match new {
         NewFound::Nothing => 0,
-        NewFound::Is(class, count) => 1 + class + bounds::MOST_CLASSES * count as u32,
+        NewFound::Is(class, count) => (1 + class + bounds::MOST_CLASSES * count as u32) as u16,
     }
 }
 
@@ -124,7 +124,7 @@ fn code_value(value: &[u8], method: MethodHead, last: bool, blocks: u32) -> Code
 // A code line by its index in its method, with so many blocks open.
 pub fn code_line(
     text: &[u8],
-    table: &mut [u32],
+    table: &mut [u16],
     shapes: &mut [u8],
     at: At,
     method: MethodHead,
@@ -149,7 +149,7 @@ pub fn code_line(
                     table::put(
                         table,
                         table::FIRST_CODE + row,
-                        Row(place as u32, long, line, stated.new),
+                        Row(place as u32, long, line, stated.new as u32),
                     );
                     shapes[row] = stated.shape;
                     Read::Got(

@@ -12,7 +12,7 @@ ghost use Rattle.model.specs.Model.{Model};
 ghost use Rattle.model.specs.Vocabulary.Table as Table;
 
 // The arguments that a class is to be given; a class that is not there is given none.
-fn given_to(table: &[u32], classes: u32, class: u32) -> u32
+fn given_to(table: &[u16], classes: u32, class: u32) -> u32
     requires { ⌜ length (now table) ≡ Table.tableSize ⌝ }
     requires { ⌜ classes ≤ 16 ⌝ }
     ensures { λ r. ⌜ ((m : Model) → Creations.GivenTold (now (table .entry)) m → length m ≡ classes → r ≡ Judge.givenTo m class) ⌝ }
@@ -25,7 +25,7 @@ fn given_to(table: &[u32], classes: u32, class: u32) -> u32
 }
 
 // A `new` as one number has as many arguments as its class is to be given; a line that is none fits.
-fn fits(table: &[u32], classes: u32, new: u32) -> bool
+fn fits(table: &[u16], classes: u32, new: u32) -> bool
     requires { ⌜ length (now table) ≡ Table.tableSize ⌝ }
     requires { ⌜ classes ≤ 16 ⌝ }
     ensures { λ r. ⌜ ((m : Model) → Creations.GivenTold (now (table .entry)) m → length m ≡ classes → r ≡ Creations.newFits m new) ⌝ }
@@ -39,7 +39,7 @@ fn fits(table: &[u32], classes: u32, new: u32) -> bool
 }
 
 // Every `new` of a text that passes otherwise, in the order of its lines: the first that does not fit is refused.
-pub fn counts_judged(table: &[u32], classes: u32, total: u32) -> Verdict
+pub fn counts_judged(table: &[u16], classes: u32, total: u32) -> Verdict
     requires { ⌜ length (now table) ≡ Table.tableSize ⌝ }
     requires { ⌜ classes ≤ 16 ⌝ }
     requires { ⌜ total ≤ 512 ⌝ }

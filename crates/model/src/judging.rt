@@ -28,7 +28,7 @@ ghost use Rattle.model.specs.Vocabulary.Table as Table;
 const LONGEST_TEXT: usize = 32768;
 
 // The first two lines, "`creol=1`, `classes=` 1..16", and then the classes.
-fn model(text: &[u8], table: &mut [u32], shapes: &mut [u8]) -> Read
+fn model(text: &[u8], table: &mut [u16], shapes: &mut [u8]) -> Read
     requires { ⌜ Table.Sized (now table) (now shapes) ⌝ }
     requires { ⌜ length (now text) ≤ Lines.longestText ⌝ }
     ensures { λ r. ⌜ Readings.Tells (now (text .entry)) (Readings.ModelLeft (now (text .entry)) (now (table .entry)) (now (shapes .entry)) (now (table .exit)) (now (shapes .exit))) r (Readings.readAt ModelText.readModel (now (text .entry)) Readings.begin) ⌝ }
@@ -49,7 +49,7 @@ fn model(text: &[u8], table: &mut [u32], shapes: &mut [u8]) -> Read
 
 // The end of a text whose classes are all read: "lines left over" are 3, or 2 where the first of them is broken; and only where none is left
 // the `new`s are judged.
-fn ended(text: &[u8], table: &[u32], at: At, classes: u32, total: u32) -> Verdict
+fn ended(text: &[u8], table: &[u16], at: At, classes: u32, total: u32) -> Verdict
     requires { ⌜ length (now table) ≡ Table.tableSize ⌝ }
     requires { ⌜ Readings.Placed (now text) at ⌝ }
     requires { ⌜ (classes ≤ 16) × (total ≤ 512) ⌝ }
@@ -73,7 +73,7 @@ fn ended(text: &[u8], table: &[u32], at: At, classes: u32, total: u32) -> Verdic
 }
 
 // The verdict on a text, with the table and the shapes that belong to it where it is accepted.
-pub fn read(text: &[u8], table: &mut [u32], shapes: &mut [u8]) -> Verdict
+pub fn read(text: &[u8], table: &mut [u16], shapes: &mut [u8]) -> Verdict
     requires { ⌜ Table.Sized (now table) (now shapes) ⌝ }
     ensures { λ r. ⌜ r ≡ Judge.judge (now (text .entry)) ⌝ }
     ensures { λ _. ⌜ ((m : Model) → Judge.judged (now (text .entry)) ≡ Judge.model m → Belonging.Belongs (now (text .entry)) (now (table .exit)) m × Belonging.Shaped (now (table .exit)) (now (shapes .exit)) m) ⌝ }

@@ -65,7 +65,7 @@ pub struct MethodHead {
 pub struct Stated {
     pub shape: u8,
     pub blocks: u32,
-    pub new: u32,
+    pub new: u16,
 }
 
 // A code value, or the number that refuses it.

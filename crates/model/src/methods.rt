@@ -17,7 +17,7 @@ ghost use Rattle.model.specs.Vocabulary.Standing as Standing;
 ghost use Rattle.model.specs.Vocabulary.Table as Table;
 
 // So many code lines, from no open block on.
-fn all_lines(text: &[u8], table: &mut [u32], shapes: &mut [u8], at: At, method: MethodHead) -> Read
+fn all_lines(text: &[u8], table: &mut [u16], shapes: &mut [u8], at: At, method: MethodHead) -> Read
     requires { ⌜ Table.Sized (now table) (now shapes) ⌝ }
     requires { ⌜ Readings.Placed (now text) at ⌝ }
     requires { ⌜ (0 < method .classes) × (method .classes ≤ 16) × (0 < method .count) × (method .first + method .count ≤ 512) ⌝ }
@@ -42,7 +42,7 @@ fn all_lines(text: &[u8], table: &mut [u32], shapes: &mut [u8], at: At, method: 
 // A method by its index in its class, after so many code lines.
 pub fn method(
     text: &[u8],
-    table: &mut [u32],
+    table: &mut [u16],
     shapes: &mut [u8],
     at: At,
     class: ClassHead,

@@ -30,7 +30,7 @@ const DELIVER: i32 = 5;
 // A rule at a label in use, by its kind.
 fn at_label(
     text: &[u8],
-    table: &[u32],
+    table: &[u16],
     shapes: &[u8],
     cells: &mut [i32],
     kind: i32,
@@ -57,7 +57,7 @@ fn at_label(
 }
 
 // "then the choice: 12, then the row's order"
-pub fn next(text: &[u8], table: &[u32], shapes: &[u8], cells: &mut [i32], choice: Choice) -> u32
+pub fn next(text: &[u8], table: &[u16], shapes: &[u8], cells: &mut [i32], choice: Choice) -> u32
     requires { ⌜ Known.Known (now text) (now table) (now shapes) ⌝ }
     requires { ⌜ isConfiguration (Known.modelOf (now text)) (now cells) ≡ true ⌝ }
     ensures { λ r. ⌜ Done (now (cells .entry)) (Step.next (Known.modelOf (now (text .entry))) (now (cells .entry)) choice) r (now (cells .exit)) ⌝ }

@@ -57,7 +57,7 @@ pub fn arrive(cells: &mut [i32], l: Label) -> u32
 }
 
 // "bind L (3): 2 to 3, if the callee's class has the method with as many params as args."
-pub fn bind(table: &[u32], cells: &mut [i32], l: Label) -> u32
+pub fn bind(table: &[u16], cells: &mut [i32], l: Label) -> u32
     requires { ⌜ Found.Told (now table) ⌝ }
     requires { ⌜ Stages.objectsInUse (now cells) ≤ Layout.objectRows ⌝ }
     requires { ⌜ Whole.between (pos 1) (Layout.read (now cells) Layout.objects) (Layout.ofCall (now cells) (l .0) Layout.callee) ≡ true ⌝ }
@@ -86,7 +86,7 @@ fn ready_at(statement: Statement) -> Worked
     }
 }
 
-fn ready(text: &[u8], table: &[u32], shapes: &[u8], cells: &[i32], here: Here) -> Worked
+fn ready(text: &[u8], table: &[u16], shapes: &[u8], cells: &[i32], here: Here) -> Worked
     requires { ⌜ Known.Known (now text) (now table) (now shapes) ⌝ }
     requires { ⌜ Stages.objectsInUse (now cells) ≤ Layout.objectRows ⌝ }
     requires { ⌜ Whole.between (pos 1) (Layout.read (now cells) Layout.objects) (Layout.ofCall (now cells) (here .label .0) Layout.callee) ≡ true ⌝ }
@@ -121,7 +121,7 @@ fn started(cells: &mut [i32], here: Here) -> u32
 }
 
 // The callee is idle and the call ready; "start tests 29 before 25".
-fn start_idle(text: &[u8], table: &[u32], shapes: &[u8], cells: &mut [i32], here: Here) -> u32
+fn start_idle(text: &[u8], table: &[u16], shapes: &[u8], cells: &mut [i32], here: Here) -> u32
     requires { ⌜ Known.Known (now text) (now table) (now shapes) ⌝ }
     requires { ⌜ Stages.objectsInUse (now cells) ≤ Layout.objectRows ⌝ }
     requires { ⌜ Whole.between (pos 1) (Layout.read (now cells) Layout.objects) (Layout.ofCall (now cells) (here .label .0) Layout.callee) ≡ true ⌝ }
@@ -141,7 +141,7 @@ fn start_idle(text: &[u8], table: &[u32], shapes: &[u8], cells: &mut [i32], here
 }
 
 // "start L (4): 3 to 4 in an idle callee."
-pub fn start(text: &[u8], table: &[u32], shapes: &[u8], cells: &mut [i32], l: Label) -> u32
+pub fn start(text: &[u8], table: &[u16], shapes: &[u8], cells: &mut [i32], l: Label) -> u32
     requires { ⌜ Known.Known (now text) (now table) (now shapes) ⌝ }
     requires { ⌜ Stages.objectsInUse (now cells) ≤ Layout.objectRows ⌝ }
     requires { ⌜ Whole.between (pos 1) (Layout.read (now cells) Layout.objects) (Layout.ofCall (now cells) (l .0) Layout.callee) ≡ true ⌝ }

@@ -32,7 +32,7 @@ ghost use Rattle.performing.specs.Vocabulary.Parts as Parts;
 
 // A line performed, its values worked out.
 fn performed(
-    table: &[u32],
+    table: &[u16],
     shapes: &[u8],
     cells: &mut [i32],
     here: Here,
@@ -76,7 +76,7 @@ fn performed(
 }
 
 // The statement at the line of the object's running call.
-pub fn exec(text: &[u8], table: &[u32], shapes: &[u8], cells: &mut [i32], o: ObjectNumber) -> u32
+pub fn exec(text: &[u8], table: &[u16], shapes: &[u8], cells: &mut [i32], o: ObjectNumber) -> u32
     requires { ⌜ Known.Known (now text) (now table) (now shapes) ⌝ }
     requires { ⌜ isConfiguration (Known.modelOf (now text)) (now cells) ≡ true ⌝ }
     ensures { λ r. ⌜ Done (now (cells .entry)) (Exec.exec (Known.modelOf (now (text .entry))) (now (cells .entry)) (o .0)) r (now (cells .exit)) ⌝ }

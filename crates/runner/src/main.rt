@@ -32,7 +32,7 @@ const MOST_CHOICES: usize = 4096;
 // The choices of an input, each played as its line is read: the answers at the front of the memory lent, and how many they are.
 fn play(
     text: &[u8],
-    table: &[u32],
+    table: &[u16],
     shapes: &[u8],
     cells: &mut [i32],
     input: &[u8],
@@ -63,7 +63,7 @@ fn play(
 fn played(
     text: &[u8],
     input: &[u8],
-    table: &mut [u32],
+    table: &mut [u16],
     shapes: &mut [u8],
     cells: &mut [i32],
     answers: &mut [i32],

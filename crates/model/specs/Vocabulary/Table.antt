@@ -43,6 +43,10 @@ Sized t x = (length t ≡ tableSize) × (length x ≡ allLines)
 unfoldable pub rowAt : Table → ℕ → Row
 rowAt t r = record { 0 = getD t (r * width) 0; 1 = getD t (r * width + 1) 0; 2 = getD t (r * width + 2) 0; 3 = getD t (r * width + 3) 0 }
 
+-- a row whose numbers fit in 16 bits
+abbrev pub Small : Row → Type 0
+Small x = (x .0 < 65536) × (x .1 < 65536) × (x .2 < 65536) × (x .3 < 65536)
+
 -- how many classes a table tells
 unfoldable pub classesIn : Table → ℕ
 classesIn t = rowAt t modelRow .0

@@ -42,7 +42,7 @@ use types.Run.{look, look-raw, init, store, forget, stop, hop, fld, from, load, 
 use types.Share.{arr-parts}
 use types.Tokens.{lft-new, lft-end}
 use sound.WpLaws.{fmOf, WpFn-mono}
-use denote.Builtin.{u8, u32, i32, usize, unit}
+use denote.Builtin.{u8, u16, i32, usize, unit}
 use denote.Exit.{yes}
 use denote.Index.{place-is, elem-out, elem-back, looks-slice, shuts-slice}
 use denote.Laws.{Is, Are, Ises, shows}
@@ -151,7 +151,7 @@ module _ {M : Type 1} (𝓤 : URA M) (H : Heap 𝓤) (A : Atoms 𝓤) (W : Given
   Tokens = ‵ (flft κ₀ q₀) ⊛ ‵ (flft κ₁ q₁) ⊛ ‵ (flft κ₂ q₂)
 
   abbrev Texts : Item 𝓤
-  Texts = ‵ (Shr 0 κ₀ u8 text) ⊛ ‵ (Shr 1 κ₁ u32 table) ⊛ ‵ (Shr 2 κ₂ u8 shapes)
+  Texts = ‵ (Shr 0 κ₀ u8 text) ⊛ ‵ (Shr 1 κ₁ u16 table) ⊛ ‵ (Shr 2 κ₂ u8 shapes)
 
   -- the borrow that choices has
   abbrev Borrow : Fml
@@ -180,7 +180,7 @@ module _ {M : Type 1} (𝓤 : URA M) (H : Heap 𝓤) (A : Atoms 𝓤) (W : Given
         → ent 𝓤 (⋆ 𝓤 H A Has) (sep 𝓤 (Perform 𝓤 H A mem run .pre to) (mean 𝓤 H A Texts))
     asked known less fits is =
         qed W Has ∵ move ! (3 ∷ []) $ split3 ! $ use1 W (‵ (Shr 0 κ₀ u8 text) ⊛ ‵ (Shr 0 κ₀ u8 text)) (shr-slice-copy 𝓤 H A W (named 0) κ₀ u8 .twice text _) $ split ! $
-        move ! (2 ∷ []) $ use1 W (‵ (Shr 1 κ₁ u32 table) ⊛ ‵ (Shr 1 κ₁ u32 table)) (shr-slice-copy 𝓤 H A W (named 1) κ₁ u32 .twice table _) $ split ! $
+        move ! (2 ∷ []) $ use1 W (‵ (Shr 1 κ₁ u16 table) ⊛ ‵ (Shr 1 κ₁ u16 table)) (shr-slice-copy 𝓤 H A W (named 1) κ₁ u16 .twice table _) $ split ! $
         move ! (4 ∷ []) $ use1 W (‵ (Shr 2 κ₂ u8 shapes) ⊛ ‵ (Shr 2 κ₂ u8 shapes)) (shr-slice-copy 𝓤 H A W (named 2) κ₂ u8 .twice shapes _) $ split ! $
         -- [shapes, twice; table, twice; text, twice; the three tokens; ν's; μ's; cells; answers]
         nothing ! $ owned ! T.the-row (Is T.the-row) (LL.makes T.the-type T′.the-plain 𝓤 H A) (chosen s) _ is $ fjoin ! $ owned ! usize (Is usize) (uint-makes 𝓤 H A W w64) (s .place) _ (refl, fits) $ fjoin ! $
@@ -225,7 +225,7 @@ module _ {M : Type 1} (𝓤 : URA M) (H : Heap 𝓤) (A : Atoms 𝓤) (W : Given
   module _ (𝓣 : Tables 𝓤 H) (performs : Triple 𝓤 (𝓣 .C #perform) (Perform 𝓤 H A mem run)) (are : Are Types (Ises Types) a at) (known : Known (text .now) (table .now) (shapes .now)) (fit : length (answers .now) ≡ length (choices .now)) where
     module _ (l₀ l₁ l₂ l₃ l₄ l₅ l₆ l₇ l₈ l₉ l₁₀ l₁₁ l₁₂ l₁₃ l₁₄ l₁₅ l₁₆ : ℕ) where
       abbrev En : Env 𝓤 H
-      En = (tyUnit, l₀) ∷ (shared 0 u8, l₁) ∷ (shared 1 u32, l₂) ∷ (shared 2 u8, l₃) ∷ (lent (named 3), l₄) ∷ (shared 4 T.the-row, l₅) ∷ (lent (named 5), l₆) ∷ (tyInt w64, l₇) ∷ (tyInt w64, l₈) ∷ (tyBool, l₉) ∷ (tyUnit, l₁₀)
+      En = (tyUnit, l₀) ∷ (shared 0 u8, l₁) ∷ (shared 1 u16, l₂) ∷ (shared 2 u8, l₃) ∷ (lent (named 3), l₄) ∷ (shared 4 T.the-row, l₅) ∷ (lent (named 5), l₆) ∷ (tyInt w64, l₇) ∷ (tyInt w64, l₈) ∷ (tyBool, l₉) ∷ (tyUnit, l₁₀)
           ∷ (tyRef erased mut (tyInt w32), l₁₁) ∷ (lent erased, l₁₂) ∷ (tyRef erased mut (tyInt w32), l₁₃) ∷ (lent erased, l₁₄) ∷ (tyPtr, l₁₅) ∷ (T′.mir, l₁₆) ∷ []
 
       -- the tokens, what the parameters own, and the locals, the last first, of which _8 to _16 hold nothing
@@ -233,7 +233,7 @@ module _ {M : Type 1} (𝓤 : URA M) (H : Heap 𝓤) (A : Atoms 𝓤) (W : Given
       At s = Tokens ∷ ‵ (flft κ₃ q₃) ∷ ‵ (flft κ₄ q₄) ∷ ‵ (flft κ₅ q₅) ∷ Texts ∷ ‵ (Mut 3 κ₃ (at-last cells (s .cells))) ∷ ‵ Borrow ∷ ‵ (Mut 5 κ₅ (at-last answers (s .answers))) ∷
           room T′.mir l₁₆ (room tyPtr l₁₅ (room (lent erased) l₁₄ (room (tyRef erased mut (tyInt w32)) l₁₃ (room (lent erased) l₁₂ (room (tyRef erased mut (tyInt w32)) l₁₁ (room tyUnit l₁₀ (room tyBool l₉ (room (tyInt w64) l₈
           (holds (tyInt w64) l₇ (vint w64 (s .place)) (holds (lent (named 5)) l₆ (slice (at-last answers (s .answers))) (holds (shared 4 T.the-row) l₅ (slice choices) (holds (lent (named 3)) l₄ (slice (at-last cells (s .cells)))
-          (holds (shared 2 u8) l₃ (slice shapes) (holds (shared 1 u32) l₂ (slice table) (holds (shared 0 u8) l₁ (slice text) (room tyUnit l₀ []))))))))))))))))
+          (holds (shared 2 u8) l₃ (slice shapes) (holds (shared 1 u16) l₂ (slice table) (holds (shared 0 u8) l₁ (slice text) (room tyUnit l₀ []))))))))))))))))
 
       -- a turn's postcondition: it ends nearer to the end, or the loop is left and the rest of the body runs
       abbrev Turned : State → Out → SProp 𝓤
@@ -343,7 +343,7 @@ module _ {M : Type 1} (𝓤 : URA M) (H : Heap 𝓤) (A : Atoms 𝓤) (W : Given
   run-choices-walks : Walks 𝓤 H A run-choices.ended stayed (WpFn 𝓤 H (𝓣 .C) (𝓣 .Λ) code.function) (run-choices.clauses 𝓤 H A mem run)
   run-choices-walks = walked 𝓤 H A run-choices.ended stayed (run-choices.clauses 𝓤 H A mem run) (WpFn 𝓤 H (𝓣 .C) (𝓣 .Λ) code.function)
       (λ κs. (slice-vals, (slice-vals, (slice-vals, (slice-vals, (slice-vals, (slice-vals, tt)))))))
-      (λ κs. (shr-slice-tells (named 0) (κs .0) u8, (shr-slice-tells (named 1) (κs .1 .0) u32, (shr-slice-tells (named 2) (κs .1 .1 .0) u8, (mut-slice-tells (named 3) (κs .1 .1 .1 .0) i32, (shr-slice-tells (named 4) (κs .1 .1 .1 .1 .0) T.the-row, (mut-slice-tells (named 5) (κs .1 .1 .1 .1 .1 .0) i32, tt)))))))
+      (λ κs. (shr-slice-tells (named 0) (κs .0) u8, (shr-slice-tells (named 1) (κs .1 .0) u16, (shr-slice-tells (named 2) (κs .1 .1 .0) u8, (mut-slice-tells (named 3) (κs .1 .1 .1 .0) i32, (shr-slice-tells (named 4) (κs .1 .1 .1 .1 .0) T.the-row, (mut-slice-tells (named 5) (κs .1 .1 .1 .1 .1 .0) i32, tt)))))))
       (λ κs qs bounds a g are.
       let (κ₀, (κ₁, (κ₂, (κ₃, (κ₄, (κ₅, _)))))) = κs in
       let (q₀, (q₁, (q₂, (q₃, (q₄, (q₅, _)))))) = qs in

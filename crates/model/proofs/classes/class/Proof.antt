@@ -11,7 +11,7 @@ use Rattle.model.specs.Lines.{plainByte, plainBytes}
 use Rattle.model.specs.Model.{Class}
 use Rattle.model.specs.ModelText.{SoFar, readClass}
 use Rattle.model.specs.Vocabulary.Readings.{readAt, between}
-use Rattle.model.proofs.Chains.{fromMethods, fromCount, fromRun, fromGiven, fromAttrs, class-chain}
+use Rattle.model.proofs.Chains.{most-if, fromMethods, fromCount, fromRun, fromGiven, fromAttrs, class-chain}
 use Rattle.model.proofs.Onward.{Comes, told-got, number-stops, number-passed, tells-made}
 use Rattle.model.proofs.Puts.{class-put}
 use Rattle.model.proofs.classes.class.Statement.{statement}
@@ -60,7 +60,16 @@ all-methods-requires c κs =
 put-requires : tie.Need-put-requires
 put-requires c κs =
     let p = c .before .before .before .before .before .before .before .before .before .before .before .before .before .before .before .before .before .before .before .before .before .before .before .before .before .before .before .before .before .before .before .before .before .before .before .before .before .before .pre in
-    (search needs, omega (arith, p .1 .1))
+    let r = c .before .before .before .before .before .before .before .before .before in
+    let x = r .before .before .before .before .before in
+    let g = x .before .before .before .before .before .before in
+    let l = g .before .before .before .before .before .before in
+    let count = told-got _ _ _ _ (r .before .before .number-line5 .ensures) _ _ (r .read5 .given .1) .3 .2 in
+    let run = told-got _ _ _ _ (x .before .before .number-line4 .ensures) _ _ (x .read4 .given .1) .3 .2 in
+    let given = told-got _ _ _ _ (g .before .before .number-line3 .ensures) _ _ (g .read3 .given .1) .3 .2 in
+    let attrs = told-got _ _ _ _ (l .before .before .number-line2 .ensures) _ _ (l .read2 .given .1) .3 .2 in
+    let most = most-if _ _ _ (g .before .before .before .most-given .ensures) in
+    (search needs, (omega (arith, p .1 .1), (omega (arith, attrs), omega (arith, given, most, attrs), omega (arith, run), omega (arith, count))))
 
 returns-6 : tie.Need-returns-6
 returns-6 c =

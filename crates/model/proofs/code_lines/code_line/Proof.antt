@@ -51,20 +51,31 @@ cast-long c = let h = inside (c .before .before .before .before .before .before 
 cast-t30 : tie.Need-cast-t30
 cast-t30 c = let h = inside (c .before .before .before .before .before .before .before .before .before) in search needs
 
+put-requires : tie.Need-put-requires
+put-requires c κs =
+    let k = c .before .before .before .before .before .before .before .before .before .before in
+    let b = k .before .before .before .before .before .before .before in
+    let h = inside k in
+    let q = b .pre .1 .0 in
+    (search needs, (search needs, (omega (arith, q), omega (arith, h), omega (arith, q), search needs)))
+
 slice-write-shapes : tie.Need-slice-write-shapes
 slice-write-shapes c =
-    let b = c .before .before .before .before .before .before .before .before .before .before .before .before .before .before .before .before .before .before .before in
+    let b = c .before .before .before .before .before .before .before .before .before .before .before .before .before .before .before .before .before .before .before .before in
     let l : length (now (b .args .shapes)) ≡ 512 = b .pre .0 .1 in
     let r : b .args .method .first + b .args .i < 512 = b .pre .1 .1 .0 .2 in
     search needs
 
 add-t31 : tie.Need-add-t31
-add-t31 c = let h = inside (c .before .before .before .before .before .before .before .before .before .before .before .before) in search needs
+add-t31 c =
+    let h = inside (c .before .before .before .before .before .before .before .before .before .before .before .before .before) in
+    let q = c .before .before .before .before .before .before .before .before .before .before .before .before .before .before .before .before .before .before .before .before .pre .1 .0 in
+    record { fits = omega (arith, h, q) }
 
 add-t30 : tie.Need-add-t30
 add-t30 c =
-    let h = inside (c .before .before .before .before .before .before .before .before .before .before .before .before) in
-    let q = c .before .before .before .before .before .before .before .before .before .before .before .before .before .before .before .before .before .before .before .pre .1 .0 in
+    let h = inside (c .before .before .before .before .before .before .before .before .before .before .before .before .before) in
+    let q = c .before .before .before .before .before .before .before .before .before .before .before .before .before .before .before .before .before .before .before .before .pre .1 .0 in
     search needs
 
 returns : tie.Need-returns
@@ -83,12 +94,12 @@ returns-2 c = λ total bs e.
 returns-3 : tie.Need-returns-3
 unfolding Tells codeLine
 returns-3 c = λ total bs e.
-    let k = c .before .before .before .before .before .before .before .before .before .before .before .before in
+    let k = c .before .before .before .before .before .before .before .before .before .before .before .before .before in
     let b = k .before .before .before .before .before .before .before in
     let a = b .args in
     let key = k .before .before .key-line .ensures in
     let h = inside k in
-    let is = said-is _ _ _ bs _ (c .before .before .before .before .before .before .before .before .code-value .ensures bs e) _ (c .before .before .before .before .before .before .stated .given .1) in
+    let is = said-is _ _ _ bs _ (c .before .before .before .before .before .before .before .before .before .code-value .ensures bs e) _ (c .before .before .before .before .before .before .before .stated .given .1) in
     let room : a .method .first + a .i < 512 = omega arith in
     let to : k .place .given .0 .1 .0 ≤ length (now (a .text)) = omega arith in (
       _,
@@ -118,7 +129,8 @@ code-line-spec =
     cast-long
     (λ c. search needs)
     cast-t30
-    (λ c κs. search needs)
+    (λ c. search needs)
+    put-requires
     slice-write-shapes
     add-t31
     add-t30

@@ -1,5 +1,5 @@
 -- `model::code_lines::new_number` meets its contract. Assumes nothing.
-use Prim.Native.Nat.{_<_}
+use Prim.Native.Nat.{_≤_, _<_}
 use Rattle.code.proofs.Told.{nothing-told, is-told}
 use Rattle.model.specs.Vocabulary.Creations.{newNumber}
 use borrow.Author.Needs.{needs}
@@ -8,7 +8,7 @@ use Rattle.model.proofs.code_lines.new_number.Statement.{statement}
 use Rattle.model.proofs.code_lines.new_number.Tie as tie
 
 -- the bounds of its class and of its arguments
-bounds : (c : tie.After-new) → (c .new .given .0 .0 < 16) × (c .new .given .0 .1 .0 < 65536)
+bounds : (c : tie.After-new) → (c .new .given .0 .0 < 16) × (c .new .given .0 .1 .0 ≤ 121)
 bounds c = c .before .before .pre _ _ (c .new .given .1)
 
 add-result : tie.Need-add-result
@@ -22,6 +22,9 @@ mul-result c = let h = bounds (c .before) in search needs
 
 add-result-2 : tie.Need-add-result-2
 add-result-2 c = let h = bounds (c .before) in search needs
+
+cast-result-2 : tie.Need-cast-result-2
+cast-result-2 c = let h = bounds (c .before) in search needs
 
 returns : tie.Need-returns
 unfolding newNumber
@@ -41,5 +44,6 @@ new-number-spec =
     cast-result
     mul-result
     add-result-2
+    cast-result-2
     returns
     returns-2)

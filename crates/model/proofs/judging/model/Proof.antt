@@ -62,7 +62,7 @@ model-spec =
     (λ c. search needs)
     (λ c. number-stops _ (after-edition (c .before .before .before .before .before)) refl _ _ (c .before .before .number-line2 .ensures) _ (c .enum-told2 .given .1))
     (λ c κs. (c .before .before .before .before .before .before .before .before .before .before .before .before .before .before .before .pre .0, (after-count (c .before .before .before) .placed, few (c .before .before .before))))
-    (λ c κs. let p = c .before .before .before .before .before .before .before .before .before .before .before .before .before .before .before .before .before .before .before .before .before .pre in search needs)
+    (λ c κs. let p = c .before .before .before .before .before .before .before .before .before .before .before .before .before .before .before .before .before .before .before .before .before .pre in (search needs, (search needs, (omega (arith, few (c .before .before .before .before .before .before .before .before .before)), search needs, search needs, search needs))))
     (λ c. search needs)
     (λ c. search needs)
     returns-3)

@@ -11,7 +11,7 @@ use Rattle.model.specs.Lines.{plainByte, plainBytes}
 use Rattle.model.specs.Model.{Method}
 use Rattle.model.specs.ModelText.{SoFar, linesBegun, readMethod}
 use Rattle.model.specs.Vocabulary.Readings.{readAt, between}
-use Rattle.model.proofs.Chains.{fromCode, fromLines, fromLocals, fromParams, method-chain}
+use Rattle.model.proofs.Chains.{most-if, fromCode, fromLines, fromLocals, fromParams, method-chain}
 use Rattle.model.proofs.Onward.{Comes, told-got, number-stops, number-passed, tells-made}
 use Rattle.model.proofs.Puts.{method-put}
 use Rattle.model.proofs.methods.method.Statement.{statement}
@@ -56,7 +56,14 @@ all-lines-requires c κs =
 put-method-requires : tie.Need-put-method-requires
 put-method-requires c κs =
     let p = c .before .before .before .before .before .before .before .before .before .before .before .before .before .before .before .before .before .before .before .before .before .before .before .before .before .before .before .before .before .before .before .before .before .pre in
-    (search needs, (omega (arith, p .1 .1), omega (arith, p .1 .1)))
+    let r = c .before .before .before .before .before .before .before .before .before in
+    let l = r .before .before .before .before .before .before in
+    let x = l .before .before .before .before .before in
+    let count = told-got _ _ _ _ (r .before .before .number-line4 .ensures) _ _ (r .read4 .given .1) .3 .2 in
+    let locals = told-got _ _ _ _ (l .before .before .number-line3 .ensures) _ _ (l .read3 .given .1) .3 .2 in
+    let params = told-got _ _ _ _ (x .before .before .number-line2 .ensures) _ _ (x .read2 .given .1) .3 .2 in
+    let most = most-if _ _ _ (x .before .before .before .most-params .ensures) in
+    (search needs, (omega (arith, p .1 .1), (omega (arith, p .1 .1), (omega (arith, params, most), omega (arith, locals), omega (arith, count, r .before .before .before .most-lines .ensures), omega (arith, p .1 .1)))))
 
 returns-5 : tie.Need-returns-5
 unfolding linesBegun
