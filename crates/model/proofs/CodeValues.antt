@@ -1,7 +1,7 @@
 -- A code value by what the code read of it, and by the blocks that are open. Assumes nothing.
 use Prim.Native.Nat.{ℕ, _≤_, _<_}
 use mathlib.Core.Bool.{Bool, true, false}
-use mathlib.Core.List.{List}
+use mathlib.Core.List.{List, _++_}
 use mathlib.Core.Option.{Option, none, some}
 use mathlib.Core.Path.{_≡_, refl, sym, ap, subst, _∙_}
 use native.Mathlib.Omega.{arith}
@@ -31,10 +31,10 @@ use Rattle.model.specs.declared.CodeFound.{CodeFound}
 use Rattle.model.specs.declared.CodeFound.the-variants as Found
 use Rattle.model.specs.declared.MethodHead.{MethodHead}
 use Rattle.model.specs.declared.Stated.{Stated}
-use Rattle.model.specs.InOrder.{wrong}
-use Rattle.model.specs.ModelText.{mayStand}
+use Rattle.model.specs.InOrder.{Taken, wrong, right}
+use Rattle.model.specs.ModelText.{Creation, SoFar, creationsOf, mayStand, standing}
 use Rattle.model.specs.Vocabulary.Creations.{newNumber}
-use Rattle.model.specs.Vocabulary.Standing.{stood, limitsOf, codeTaken, CodeIs, CodeSaid}
+use Rattle.model.specs.Vocabulary.Standing.{stood, limitsOf, valueTaken, CodeIs, CodeSaid}
 
 -- whether a line may stand where it stands, by the tests that the code makes
 module _ (c : Code) (bs : List Block) where
@@ -65,25 +65,34 @@ module _ (last : Bool) (c : Code) where
     unfolding stood
     stood-not f = ap (stood last c) e ∙ rw (f, stood) refl
 
-  -- where blocks are told, it may stand
-  pub stood-stands : (o : Option (List Block)) (bs : List Block) → stood last c o ≡ some bs → mayStand last c bs ≡ true
-  stood-stands none bs e = absurd (let z : _≡_ {A = ℕ} 0 1 = unfold stood in cc in omega arith)
-  stood-stands (some b) bs e = go (mayStand last c b) refl
-    where
-      go : (t : Bool) → mayStand last c b ≡ t → mayStand last c bs ≡ true
-      go true f = let g : stood last c (some b) ≡ some b = unfold stood in rw (f, stood) in let h : b ≡ bs = cc in subst (λ x. mayStand last c x ≡ true) h f
-      go false f = let g : stood last c (some b) ≡ none = unfold stood in rw (f, stood) in absurd (let z : _≡_ {A = ℕ} 0 1 = cc in omega arith)
+  -- so it is refused, or may stand there and is taken
+  module _ (at : ℕ) (so : SoFar) where
+    unfoldable pub Taking : Option (List Block) → Taken (Code × SoFar) → Type 0
+    Taking none x = x ≡ wrong wrongBlocks
+    Taking (some bs) x = (mayStand last c bs ≡ true) × (x ≡ right (c, record { total = so .total; creations = so .creations ++ creationsOf at c; blocks = bs }))
+
+    pub taking : (o : Option (List Block)) → Taking (stood last c o) (standing at last so c o)
+    unfolding stood standing Taking
+    taking none = refl
+    taking (some bs) = go (mayStand last c bs) refl
+      where
+        go : (b : Bool) → mayStand last c bs ≡ b → Taking (elim b [ true ↦ some bs | false ↦ none ]) (elim b [
+          | false ↦ wrong wrongBlocks
+          | true ↦ right (c, record { total = so .total; creations = so .creations ++ creationsOf at c; blocks = bs })
+        ])
+        go true f = (f, refl)
+        go false f = refl
 
 -- what the code read of a value, with no cells lent
 module _ (cells : Cells) (a : Around) (m : MethodHead) (l : a .limits ≡ limitsOf m) (value : Text) (r : ReadCode)
     (q : r ≡ statementRead cells a (m .classes) value) where
   -- it is no statement
   pub code-bad : (last : Bool) (bs : List Block) (p : ℕ) → r .read ≡ Read.Bad p → CodeSaid value m last bs (Found.Refused wrongCode)
-  unfolding CodeSaid codeTaken
-  code-bad last bs p g =
+  unfolding CodeSaid
+  code-bad last bs p g at total cs =
       let e : statement trees guardTrees (limitsOf m) (m .classes) value ≡ bad p =
       subst (λ x. statement trees guardTrees x (m .classes) value ≡ bad p) l (told-bad cells a (m .classes) value r q p g) in
-      rw (e, codeTaken) refl
+      rw (e, valueTaken)
 
   module _ (said : Declared.Statement) (g : r .read ≡ Read.Got said) where
     pub told : Told cells a (m .classes) value r said
@@ -105,20 +114,19 @@ module _ (cells : Cells) (a : Around) (m : MethodHead) (l : a .limits ≡ limits
     module _ (last : Bool) (bs : List Block) where
       -- it may not stand
       pub code-stuck : stood last (told .code) (through (shapeOf (told .code)) bs) ≡ none → CodeSaid value m last bs (Found.Refused wrongBlocks)
-      unfolding CodeSaid codeTaken
-      code-stuck f = rw (tree, codeTaken, f) refl
+      unfolding CodeSaid Taking
+      code-stuck f at total cs = rw (tree, valueTaken) (rw f at (taking last (told .code) at (record { total = total; creations = cs; blocks = bs }) (through (shapeOf (told .code)) bs)))
 
       -- it may
       pub code-stands : 0 < m .classes → m .classes ≤ 16 → (d : Stated) (left : List Block) → stood last (told .code) (through (shapeOf (told .code)) bs) ≡ some left
           → d .blocks ≡ packedBlocks left → d .shape ≡ shapeNumber (shapeOf (told .code)) → d .new ≡ newNumber (newSaid said (r .arguments .count))
           → CodeSaid value m last bs (Found.Is d)
-      unfolding CodeSaid codeTaken
+      unfolding CodeSaid
       code-stands some-class few d left f b s n = record {
         code = told .code;
         after = left;
-        taken = rw (tree, codeTaken, f) refl;
         tree = tree;
-        stands = stood-stands last (told .code) _ left f;
+        stands = f;
         blocks = b;
         shape = s;
         new = n ∙ ap newNumber (told .creates);
@@ -127,7 +135,8 @@ module _ (cells : Cells) (a : Around) (m : MethodHead) (l : a .limits ≡ limits
 
 -- what the code gives of a value, by its case
 module _ (value : Text) (m : MethodHead) (last : Bool) (bs : List Block) (r : CodeFound) (s : CodeSaid value m last bs r) where
-  pub said-refused : (n : ℕ) → r ≡ Found.Refused n → codeTaken (limitsOf m) (m .classes) last bs value ≡ wrong n
+  pub said-refused : (n : ℕ) → r ≡ Found.Refused n → (at total : ℕ) (cs : List Creation)
+      → valueTaken (limitsOf m) (m .classes) last (record { total = total; creations = cs; blocks = bs }) at value ≡ wrong n
   unfolding CodeSaid
   said-refused n e = subst (CodeSaid value m last bs) e s
 

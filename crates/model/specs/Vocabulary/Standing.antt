@@ -5,7 +5,7 @@ use mathlib.Core.List.{List}
 use mathlib.Core.Option.{Option, none, some}
 use mathlib.Core.Path.{_≡_}
 use lib.ListN.{length}
-use Rattle.whole.specs.Refusals.{wrongCode, wrongBlocks}
+use Rattle.whole.specs.Refusals.{wrongCode}
 use Rattle.terms.specs.Bytes.{Text}
 use Rattle.terms.specs.declared.Limits.{Limits}
 use Rattle.terms.specs.Parsed.{got, bad}
@@ -19,8 +19,8 @@ use Rattle.model.specs.declared.CodeFound.the-variants as Found
 use Rattle.model.specs.declared.MethodHead.{MethodHead}
 use Rattle.model.specs.declared.Stated.{Stated}
 use Rattle.model.specs.Bounds.{mostClasses}
-use Rattle.model.specs.InOrder.{Taken, wrong, right}
-use Rattle.model.specs.ModelText.{mayStand}
+use Rattle.model.specs.InOrder.{Taken, wrong}
+use Rattle.model.specs.ModelText.{Creation, SoFar, mayStand, standing}
 use Rattle.model.specs.Vocabulary.Creations.{newNumber}
 
 -- the blocks that are open after a line, if it may stand there
@@ -32,26 +32,26 @@ stood last c (some bs) = elim (mayStand last c bs) [ true ↦ some bs | false �
 abbrev pub limitsOf : MethodHead → Limits
 limitsOf m = record { attrs = m .attrs; locals = m .locals }
 
--- what a code value is taken for: a statement, and the blocks that are open after it
-unfoldable pub codeTaken : Limits → ℕ → Bool → List Block → Text → Taken (Code × List Block)
-codeTaken lim classes last bs value = elim (statement trees guardTrees lim classes value) [
+-- what a code value is taken for, with what is carried, as codeLine says
+abbrev pub valueTaken : Limits → ℕ → Bool → SoFar → ℕ → Text → Taken (Code × SoFar)
+valueTaken lim classes last so at value = elim (statement trees guardTrees lim classes value) [
   | bad p ↦ wrong wrongCode
-  | got p c ↦ elim (stood last c (through (shapeOf c) bs)) [ none ↦ wrong wrongBlocks | some left ↦ right (c, left) ]
+  | got p c ↦ standing at last so c (through (shapeOf c) (so .blocks))
 ]
 
 -- what the code gives of a statement
 pub record CodeIs (value : Text) (m : MethodHead) (last : Bool) (bs : List Block) (d : Stated) : Type 0 where
   pub code : Code
   pub after : List Block
-  pub taken : codeTaken (limitsOf m) (m .classes) last bs value ≡ right (code, after)
   pub tree : statement trees guardTrees (limitsOf m) (m .classes) value ≡ got (length value) code
-  pub stands : mayStand last code after ≡ true
+  pub stands : stood last code (through (shapeOf code) bs) ≡ some after
   pub blocks : d .blocks ≡ packedBlocks after
   pub shape : d .shape ≡ shapeNumber (shapeOf code)
   pub new : d .new ≡ newNumber (newOf code)
   pub class : (n : ℕ × ℕ) → newOf code ≡ some n → n .0 < mostClasses
 
--- what the code gives of a value: the number that refuses it, or the statement
+-- what the code gives of a value: the number that refuses it, whatever else is carried, or the statement
 unfoldable pub CodeSaid : Text → MethodHead → Bool → List Block → CodeFound → Type 0
-CodeSaid value m last bs (Found.Refused n) = codeTaken (limitsOf m) (m .classes) last bs value ≡ wrong n
+CodeSaid value m last bs (Found.Refused n) =
+    (at total : ℕ) (cs : List Creation) → valueTaken (limitsOf m) (m .classes) last (record { total = total; creations = cs; blocks = bs }) at value ≡ wrong n
 CodeSaid value m last bs (Found.Is d) = CodeIs value m last bs d

@@ -7,8 +7,8 @@ use lib.ListN.{length, drop, length-take, length-drop}
 use Rattle.model.specs.InOrder.{right}
 use Rattle.model.specs.ModelText.{codeLine}
 use Rattle.model.specs.Lines.{plainByte, plainBytes}
-use Rattle.model.specs.Vocabulary.Readings.{Tells, soFar}
-use Rattle.model.proofs.CodeRows.{taken-wrong, line-taken, line-left}
+use Rattle.model.specs.Vocabulary.Readings.{Tells}
+use Rattle.model.proofs.CodeRows.{line-taken, line-left}
 use Rattle.model.proofs.CodeValues.{said-refused, said-is}
 use Rattle.model.proofs.KeyLines.{value-failed, value-refused, value-read, value-inside, value-placed}
 use borrow.Author.Needs.{needs}
@@ -24,15 +24,6 @@ key-line-requires : tie.Need-key-line-requires
 unfolding plainByte plainBytes
 key-line-requires c κs = (c .before .before .before .before .pre .1 .0, refl)
 
-sub-code-value : tie.Need-sub-code-value
-sub-code-value c = let h = inside (c .before) in search needs
-
-part-code-value-start : tie.Need-part-code-value-start
-part-code-value-start c = let h = inside (c .before) in search needs
-
-part-code-value-end : tie.Need-part-code-value-end
-part-code-value-end c = let h = inside (c .before) in search needs
-
 code-value-requires : tie.Need-code-value-requires
 code-value-requires c κs =
     let k = c .before .before .before in
@@ -41,15 +32,6 @@ code-value-requires c κs =
     let v = k .place .given .0 in
     let h = inside k in
     (omega (arith, length-take (v .1 .0 - v .0) (drop (v .0) (now (a .text))), length-drop (v .0) (now (a .text))), (search needs, search needs))
-
-sub-long : tie.Need-sub-long
-sub-long c = let h = inside (c .before .before .before .before .before .before .before .before) in search needs
-
-cast-long : tie.Need-cast-long
-cast-long c = let h = inside (c .before .before .before .before .before .before .before .before) in search needs
-
-cast-t30 : tie.Need-cast-t30
-cast-t30 c = let h = inside (c .before .before .before .before .before .before .before .before .before) in search needs
 
 put-requires : tie.Need-put-requires
 put-requires c κs =
@@ -88,8 +70,7 @@ returns-2 c = λ total bs e.
     let k = c .before .before .before .before .before .before .before in
     let a = k .before .before .before .before .before .before .before .args in
     value-refused _ _ _ _ _ (k .before .before .key-line .ensures) _ _ (k .place .given .1) _
-    (taken-wrong (a .method) (a .i) (soFar (now (a .table)) (a .method .first + a .i) total bs) (a .at .line) _ _
-    (said-refused _ _ _ bs _ (c .before .before .before .code-value .ensures bs e) _ (c .before .number .given .1)))
+    (said-refused _ _ _ bs _ (c .before .before .before .code-value .ensures bs e) _ (c .before .number .given .1) (a .at .line) total _)
 
 returns-3 : tie.Need-returns-3
 unfolding Tells codeLine
@@ -116,19 +97,19 @@ code-line-spec =
     key-line-requires
     (λ c. search needs)
     (λ c. search needs)
-    sub-code-value
-    part-code-value-start
-    part-code-value-end
+    (λ c. let h = inside (c .before) in search needs)
+    (λ c. let h = inside (c .before) in search needs)
+    (λ c. let h = inside (c .before) in search needs)
     (λ c. search needs)
     code-value-requires
     (λ c. search needs)
     (λ c. search needs)
     (λ c. search needs)
     (λ c. search needs)
-    sub-long
-    cast-long
+    (λ c. let h = inside (c .before .before .before .before .before .before .before .before) in search needs)
+    (λ c. let h = inside (c .before .before .before .before .before .before .before .before) in search needs)
     (λ c. search needs)
-    cast-t30
+    (λ c. let h = inside (c .before .before .before .before .before .before .before .before .before) in search needs)
     (λ c. search needs)
     put-requires
     slice-write-shapes

@@ -11,21 +11,6 @@ use Rattle.model.proofs.code_lines.new_number.Tie as tie
 bounds : (c : tie.After-new) → (c .new .given .0 .0 < 16) × (c .new .given .0 .1 .0 ≤ 121)
 bounds c = c .before .before .pre _ _ (c .new .given .1)
 
-add-result : tie.Need-add-result
-add-result c = let h = bounds (c .before) in search needs
-
-cast-result : tie.Need-cast-result
-cast-result c = let h = bounds (c .before) in search needs
-
-mul-result : tie.Need-mul-result
-mul-result c = let h = bounds (c .before) in search needs
-
-add-result-2 : tie.Need-add-result-2
-add-result-2 c = let h = bounds (c .before) in search needs
-
-cast-result-2 : tie.Need-cast-result-2
-cast-result-2 c = let h = bounds (c .before) in search needs
-
 returns : tie.Need-returns
 unfolding newNumber
 returns c o e = sym (ap newNumber (nothing-told o (sym e ∙ c .enum-told .given .1)))
@@ -40,10 +25,10 @@ new-number-spec =
     (tie.spec
     (λ c. search needs)
     (λ c. search needs)
-    add-result
-    cast-result
-    mul-result
-    add-result-2
-    cast-result-2
+    (λ c. let h = bounds (c .before) in search needs)
+    (λ c. let h = bounds (c .before) in search needs)
+    (λ c. let h = bounds (c .before) in search needs)
+    (λ c. let h = bounds (c .before) in search needs)
+    (λ c. let h = bounds (c .before) in search needs)
     returns
     returns-2)

@@ -31,12 +31,6 @@ returns c m told l =
     let e = sym (c .before .fits2 .ensures m told l) ∙ not-true _ (c .if1 .taken) in
     sym (ap verdictOf (o .inv m told l ∙ counts-here _ m _ _ (omega arith) _ (r .code-row .ensures) e) ∙ verdict-refusal _)
 
-add-i : tie.Need-add-i Inv-loop μ-loop
-add-i c = omega arith
-
-loop-less : tie.Need-loop-less Inv-loop μ-loop
-loop-less c = omega arith
-
 loop-again : tie.Need-loop-again Inv-loop μ-loop
 loop-again c m told l =
     let r = c .before .before in
@@ -58,7 +52,7 @@ counts-judged-spec =
     (λ c κs. search needs)
     (λ c κs. search needs)
     returns
-    add-i
-    loop-less
+    (λ c. omega arith)
+    (λ c. omega arith)
     loop-again
     returns-2)

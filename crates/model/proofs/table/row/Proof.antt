@@ -19,11 +19,8 @@ cast-t17 c = record { fits = omega (arith, c .shared-slice-known3 .given (c .bef
 cast-t22 : tie.Need-cast-t22
 cast-t22 c = record { fits = omega (arith, c .shared-slice-known4 .given (c .before .before .before .before .args .r * 4 + 3)) }
 
-returns : tie.Need-returns
-unfolding rowAt
-returns c = refl
-
 pub row-spec : {M : Type 1} → statement M
+unfolding rowAt
 row-spec =
     tie.close
     (tie.spec
@@ -43,4 +40,4 @@ row-spec =
     (λ c. search needs)
     (λ c. search needs)
     cast-t22
-    returns)
+    (λ c. refl))
