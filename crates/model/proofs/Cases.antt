@@ -1,10 +1,10 @@
 -- Verdicts on texts near the session's, computed: number, then line. Assumes nothing.
 use Prim.Native.Nat.{ℕ, zero, suc, _+_}
 use Prim.Native.Char.{code}
-use mathlib.Core.List.{List, [], _∷_, _++_}
+use mathlib.Core.List.{[], _∷_, _++_}
 use mathlib.Core.Path.{refl}
 use lib.ListN.{replicate}
-use Rattle.whole.proofs.Tables.{Row, _is_, Holds}
+use Rattle.whole.proofs.Tables.{_is_, Holds}
 use Rattle.terms.specs.Bytes.{Text, bytes}
 use Rattle.model.proofs.Open.{model-open}
 use Rattle.model.proofs.Session.{verdict, session-texts, session-with, session, storing}
@@ -13,8 +13,7 @@ use Rattle.model.proofs.Session.{verdict, session-texts, session-with, 
 with-attrs : Text → Text
 with-attrs n = bytes "creol=1\nclasses=2\nclass=0\nattrs=" ++ n ++ bytes "\ngiven=0\n"
 
-lines-table : List (Row (List ℕ))
-lines-table =
+lines-hold : Holds (
     (verdict session is 0 ∷ 0 ∷ [])
     ∷ (verdict [] is 3 ∷ 1 ∷ [])
     -- lines left over, whole or broken
@@ -35,13 +34,11 @@ lines-table =
     ∷ (verdict (with-attrs (bytes "")) is 4 ∷ 4 ∷ [])
     ∷ (verdict (with-attrs (bytes "8")) is 3 ∷ 6 ∷ [])
     ∷ []
-
-lines-hold : Holds lines-table
-unfolding model-open session-texts lines-table with-attrs
+    )
+unfolding model-open session-texts with-attrs
 lines-hold = (refl, (refl, (refl, (refl, (refl, (refl, (refl, (refl, (refl, (refl, (refl, (refl, (refl, (refl, (refl, tt)))))))))))))))
 
-code-table : List (Row (List ℕ))
-code-table =
+code-holds : Holds (
     -- counts: the 64
     (verdict (session-with (bytes "lines=65\n")) is 4 ∷ 11 ∷ [])
     -- `1<2<3` is 5
@@ -56,9 +53,8 @@ code-table =
     ∷ (verdict (session-with (bytes "lines=2\ncode=new a0 1\ncode=skip\n")) is 6 ∷ 13 ∷ [])
     ∷ (verdict (session-with (bytes "lines=2\ncode=new a0 2\ncode=skip\n")) is 5 ∷ 12 ∷ [])
     ∷ []
-
-code-holds : Holds code-table
-unfolding model-open session-texts code-table
+    )
+unfolding model-open session-texts
 code-holds = (refl, (refl, (refl, (refl, (refl, (refl, (refl, (refl, (refl, tt)))))))))
 
 -- a line so many times
@@ -83,13 +79,11 @@ long-class next =
     ++ bytes "class=1\nattrs=0\ngiven=0\nrun=0\n"
     ++ next
 
-long-table : List (Row (List ℕ))
-long-table =
+long-holds : Holds (
     -- "All `lines=` together are at most 512.": all of them, and one more, at its `lines=`
     (verdict (long-class (bytes "methods=0\n")) is 0 ∷ 0 ∷ [])
     ∷ (verdict (long-class (bytes "methods=1\nmethod=0\nparams=0\nlocals=0\nlines=1\n")) is 4 ∷ 560 ∷ [])
     ∷ []
-
-long-holds : Holds long-table
-unfolding model-open session-texts again long-methods long-class long-table
+    )
+unfolding model-open session-texts again long-methods long-class
 long-holds = (refl, (refl, tt))

@@ -5,7 +5,7 @@ use mathlib.Core.List.{List, [], _∷_, _++_}
 use mathlib.Core.Path.{refl}
 use lib.Dec.{eqb}
 use lib.ListN.{replicate}
-use Rattle.whole.proofs.Tables.{Row, _is_, Holds}
+use Rattle.whole.proofs.Tables.{_is_, Holds}
 use Rattle.terms.specs.Bytes.{Text, bytes}
 use Rattle.model.proofs.Open.{model-open}
 use Rattle.model.proofs.Session.{verdict, session-texts, four-classes}
@@ -48,8 +48,7 @@ unfolding session-texts changed first-lines second-lines one-class two-classes n
 bounded = tt
 
 -- the first class
-first-class-table : List (Row (List ℕ))
-first-class-table =
+first-class : Holds (
     (verdict (one-class 0 (bytes "")) is 0 ∷ 0 ∷ [])
     -- "`classes=` 1..16"
     ∷ (verdict (one-class 2 (bytes "classes=0")) is 4 ∷ 2 ∷ [])
@@ -69,14 +68,12 @@ first-class-table =
     ∷ (verdict (one-class 7 (bytes "methods=8")) is 3 ∷ 13 ∷ [])
     ∷ (verdict (one-class 7 (bytes "methods=9")) is 4 ∷ 7 ∷ [])
     ∷ []
-
-first-class : Holds first-class-table
-unfolding model-open bounded first-class-table
+    )
+unfolding model-open bounded
 first-class = (refl, (refl, (refl, (refl, (refl, (refl, (refl, (refl, (refl, (refl, (refl, (refl, (refl, (refl, tt))))))))))))))
 
 -- the first method
-first-method-table : List (Row (List ℕ))
-first-method-table =
+first-method : Holds (
     -- "`method=` (index from 0)". "Where run is 1, method 0 has params 0."
     (verdict (one-class 8 (bytes "method=1")) is 4 ∷ 8 ∷ [])
     ∷ (verdict (one-class 9 (bytes "params=1")) is 4 ∷ 9 ∷ [])
@@ -98,14 +95,12 @@ first-method-table =
     ∷ (verdict (one-class 12 (bytes "code=skip")) is 6 ∷ 12 ∷ [])
     ∷ (verdict (one-class 12 (bytes "code=if 1")) is 6 ∷ 12 ∷ [])
     ∷ []
-
-first-method : Holds first-method-table
-unfolding model-open bounded first-method-table
+    )
+unfolding model-open bounded
 first-method = (refl, (refl, (refl, (refl, (refl, (refl, (refl, (refl, (refl, (refl, (refl, (refl, (refl, (refl, tt))))))))))))))
 
 -- a later class, and a later method
-second-class-table : List (Row (List ℕ))
-second-class-table =
+second-class : Holds (
     (verdict (two-classes 0 (bytes "")) is 0 ∷ 0 ∷ [])
     ∷ (verdict (two-classes 13 (bytes "class=0")) is 4 ∷ 13 ∷ [])
     ∷ (verdict (two-classes 13 (bytes "class=2")) is 4 ∷ 13 ∷ [])
@@ -126,14 +121,12 @@ second-class-table =
     ∷ (verdict (two-classes 23 (bytes "method=2")) is 4 ∷ 23 ∷ [])
     ∷ (verdict (two-classes 24 (bytes "params=1")) is 4 ∷ 25 ∷ [])
     ∷ []
-
-second-class : Holds second-class-table
-unfolding model-open bounded second-class-table
+    )
+unfolding model-open bounded
 second-class = (refl, (refl, (refl, (refl, (refl, (refl, (refl, (refl, (refl, (refl, (refl, (refl, (refl, (refl, (refl, tt)))))))))))))))
 
 -- "lines of at most 120 bytes from 32 to 126, each ended by LF": a byte that is within makes a wrong key
-bytes-within-table : List (Row (List ℕ))
-bytes-within-table =
+bytes-within : Holds (
     (verdict (0 ∷ bytes "\n") is 2 ∷ 1 ∷ [])
     ∷ (verdict (9 ∷ bytes "\n") is 2 ∷ 1 ∷ [])
     ∷ (verdict (13 ∷ bytes "\n") is 2 ∷ 1 ∷ [])
@@ -142,26 +135,16 @@ bytes-within-table =
     ∷ (verdict (126 ∷ bytes "\n") is 3 ∷ 1 ∷ [])
     ∷ (verdict (127 ∷ bytes "\n") is 2 ∷ 1 ∷ [])
     ∷ (verdict (255 ∷ bytes "\n") is 2 ∷ 1 ∷ [])
-    ∷ []
-
-bytes-within : Holds bytes-within-table
-unfolding model-open bounded bytes-within-table
-bytes-within = (refl, (refl, (refl, (refl, (refl, (refl, (refl, (refl, tt))))))))
-
--- "At most 32,768 bytes"
-lengths-table : List (Row (List ℕ))
-lengths-table =
-    (verdict (replicate 32768 97) is 2 ∷ 1 ∷ [])
+    -- "At most 32,768 bytes"
+    ∷ (verdict (replicate 32768 97) is 2 ∷ 1 ∷ [])
     ∷ (verdict (replicate 32769 97) is 1 ∷ 0 ∷ [])
     ∷ []
-
-lengths : Holds lengths-table
-unfolding model-open bounded lengths-table
-lengths = (refl, (refl, tt))
+    )
+unfolding model-open bounded
+bytes-within = (refl, (refl, (refl, (refl, (refl, (refl, (refl, (refl, (refl, (refl, tt))))))))))
 
 -- "Blocks nest at most 8 deep." The line that would open a ninth is 6. What follows the method is a wrong key
-depths-table : List (Row (List ℕ))
-depths-table =
+depths : Holds (
     (verdict (coded (bytes "17") (nested 8 [])) is 3 ∷ 29 ∷ [])
     ∷ (verdict (coded (bytes "19") (nested 9 [])) is 6 ∷ 20 ∷ [])
     ∷ (verdict (coded (bytes "3") (bytes "code=if 1\ncode=else\n")) is 6 ∷ 14 ∷ [])
@@ -172,7 +155,6 @@ depths-table =
     ∷ (verdict (coded (bytes "3") (bytes "code=if 1\ncode=fi\n")) is 6 ∷ 13 ∷ [])
     ∷ (verdict (coded (bytes "3") (bytes "code=while 1\ncode=fi\n")) is 6 ∷ 13 ∷ [])
     ∷ []
-
-depths : Holds depths-table
-unfolding model-open bounded depths-table
+    )
+unfolding model-open bounded
 depths = (refl, (refl, (refl, (refl, (refl, (refl, (refl, (refl, (refl, tt)))))))))
