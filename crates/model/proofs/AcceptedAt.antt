@@ -1,12 +1,12 @@
 -- An accepted model at one of its classes, methods and lines; and that each line goes on inside its method. Assumes nothing.
-use Prim.Native.Nat.{ℕ, zero, suc, _+_, _≤_, _<_}
+use Prim.Native.Nat.{ℕ, zero, suc, _+_, _<_}
 use mathlib.Core.List.{List, [], _∷_, map}
 use mathlib.Core.Option.{some}
 use mathlib.Core.Path.{_≡_, refl, sym, subst}
 use native.Mathlib.Nat.{zero-add}
 use native.Mathlib.Omega.{arith}
 use lib.ListN.{length, getD, getElem?, length-map}
-use Rattle.whole.specs.Lists.{Every, EachFrom}
+use Rattle.whole.specs.Lists.{Every}
 use Rattle.code.specs.declared.Shape.the-variants as Shape
 use Rattle.code.specs.Blocks.{shapeOf}
 use Rattle.code.specs.Partners.{goesTo}
@@ -15,6 +15,7 @@ use Rattle.code.specs.Within.{CodeWithin}
 use Rattle.code.proofs.Jumps.{line-after, goes-inside}
 use Rattle.model.specs.Accepted.{AcceptedMethod, AcceptedClass, AcceptedNew, AcceptedModel}
 use Rattle.model.specs.Model.{Method, Class, Model}
+use Rattle.model.proofs.TableRows.{item-at, each-at}
 
 -- an item by its place
 every-at : {A : Type 0} (P : A → Type 0) (xs : List A) (i : ℕ) (x : A) → Every P xs → getElem? xs i ≡ some x → P x
@@ -23,38 +24,16 @@ every-at P [] i x h e = absurd (let z : _≡_ {A = ℕ} 0 1 = cc in omega arith)
 every-at P (y ∷ xs) zero x h e = let f : y ≡ x = cc in subst P f (h .0)
 every-at P (y ∷ xs) (suc i) x h e = every-at P xs i x (h .1) e
 
--- an item by its place, with its index
-each-at : {A : Type 0} (P : ℕ → A → Type 0) (n : ℕ) (xs : List A) (i : ℕ) (x : A) → EachFrom P n xs → getElem? xs i ≡ some x → P (n + i) x
-unfolding EachFrom
-each-at P n [] i x h e = absurd (let z : _≡_ {A = ℕ} 0 1 = cc in omega arith)
-each-at P n (y ∷ xs) zero x h e = let f : y ≡ x = cc in let z : n ≡ n + 0 = omega arith in subst (P (n + 0)) f (subst (λ j. P j y) z (h .0))
-each-at P n (y ∷ xs) (suc i) x h e = let z : n + 1 + i ≡ n + suc i = omega arith in subst (λ j. P j x) z (each-at P (n + 1) xs i x (h .1) e)
-
--- the first item
-first-at : {A : Type 0} (P : ℕ → A → Type 0) (xs : List A) → EachFrom P 0 xs → 1 ≤ length xs → (x : A) × (getElem? xs 0 ≡ some x) × P 0 x
-unfolding EachFrom
-first-at P [] h n = absurd (omega arith)
-first-at P (x ∷ xs) h n = (x, refl, h .0)
-
 -- an accepted model at one of its classes
 module _ {m : Model} (a : AcceptedModel m) (k : ℕ) (c : Class) (e : getElem? m k ≡ some c) where
   -- a class by its index
   pub class-accepted : AcceptedClass (length m) k c
-  class-accepted = subst (λ i. AcceptedClass (length m) i c) (zero-add k) (each-at (AcceptedClass (length m)) 0 m k c (a .classes) e)
-
-  -- a class with run 1 has a method 0, which takes no parameters
-  pub running : c .run ≡ 1 → (b : Method) × (getElem? (c .methods) 0 ≡ some b) × (b .params ≡ 0)
-  running u =
-      let s = class-accepted in
-      let b = first-at _ (c .methods) (s .methods) (omega arith) in
-      (b .0, b .1, b .2 .first u refl)
+  class-accepted = each-at _ 0 m k c (a .classes) e (zero-add k)
 
   module _ (j : ℕ) (b : Method) (f : getElem? (c .methods) j ≡ some b) where
     -- a method by its index
     pub method-accepted : AcceptedMethod (length m) (c .attrs) (c .run) j b
-    method-accepted =
-        subst (λ i. AcceptedMethod (length m) (c .attrs) (c .run) i b) (zero-add j)
-        (each-at (AcceptedMethod (length m) (c .attrs) (c .run)) 0 (c .methods) j b (class-accepted .methods) f)
+    method-accepted = each-at _ 0 (c .methods) j b (class-accepted .methods) f (zero-add j)
 
     -- a line by its index
     module _ (i : ℕ) (l : Code) (g : getElem? (b .code) i ≡ some l) where
@@ -83,9 +62,16 @@ module _ {m : Model} (a : AcceptedModel m) (k : ℕ) (c : Class) (e : getElem? m
       onward-inside n =
           subst (λ n. i + 1 < n) (length-map (b .code) shapeOf) (line-after (map shapeOf (b .code)) (method-accepted .blocks .ends) i within n)
 
+  -- a class with run 1 has a method 0, which takes no parameters
+  pub running : c .run ≡ 1 → (b : Method) × (getElem? (c .methods) 0 ≡ some b) × (b .params ≡ 0)
+  running u =
+      let s = class-accepted in
+      let b = item-at (c .methods) 0 (omega arith) in
+      (b .0, b .1, method-accepted 0 (b .0) (b .1) .first u refl)
+
 -- there is a class 0, which is given nothing and runs
 pub starting : {m : Model} → AcceptedModel m → (c : Class) × (getElem? m 0 ≡ some c) × (c .given ≡ 0) × (c .run ≡ 1)
 starting {m} a =
-    let c = first-at _ m (a .classes) (a .count .0) in
-    let f = c .2 .first refl in
+    let c = item-at m 0 (a .count .0) in
+    let f = class-accepted a 0 (c .0) (c .1) .first refl in
     (c .0, c .1, f .0, f .1)

@@ -17,7 +17,7 @@ use Rattle.model.specs.ModelText.{Creation}
 use Rattle.model.specs.Vocabulary.Table.{Table, rowAt, classRow, codeRow}
 use Rattle.model.specs.declared.Row.{Row}
 use Rattle.model.specs.declared.Verdict.{Verdict}
-use Rattle.model.proofs.TableRows.{item-at, rows-at}
+use Rattle.model.proofs.TableRows.{item-at, each-at}
 
 -- past a list there is no item
 item-past : {A : Type 0} (xs : List A) (i : ℕ) → length xs ≤ i → getElem? xs i ≡ none
@@ -39,8 +39,7 @@ module _ (m : Model) (k : ℕ) where
 pub given-told : (t : Table) (m : Model) (k : ℕ) → GivenTold t m → k < length m → givenTo m k ≡ rowAt t (classRow k) .1
 given-told t m k told h =
     let c = item-at m k h in
-    let p = rows-at (λ i (x : Class). rowAt t (classRow i) .1 ≡ x .given) 0 m k (c .0) told (c .1) in
-    given-of m k (c .0) (c .1) ∙ sym (rw (zero-add k) at p)
+    given-of m k (c .0) (c .1) ∙ sym (each-at (λ i (x : Class). rowAt t (classRow i) .1 ≡ x .given) 0 m k (c .0) told (c .1) (zero-add k))
 
 -- the first of some creations: its count fits, or it is refused
 module _ (m : Model) (c : Creation) (cs : List Creation) where

@@ -12,7 +12,7 @@ use Rattle.model.specs.Vocabulary.Belonging.{CodeTold, ShapeTold, LineTo
 use Rattle.model.specs.Vocabulary.Creations.{creationsFrom, creationsIn}
 use Rattle.model.specs.Model.{Method, Class}
 use Rattle.model.specs.Vocabulary.Table.{Table, put, classRow, methodRow, codeRow, Same}
-use Rattle.model.proofs.TableRows.{row-other, rows-keep}
+use Rattle.model.proofs.TableRows.{row-other, each-keep}
 
 -- a table and itself
 pub same-self : (t : Table) (x : List ℕ) (k m l : ℕ) → Same t x t x k m l
@@ -51,13 +51,13 @@ module _ {t u : Table} {x y : List ℕ} {k m l : ℕ} (a : Same t x u y k m l) w
     unfolding MethodTold
     method-kept attrs class j o d told =
         rw (a .method class j d)
-        (told .0, told .1, told .2, omega arith, rows-keep _ _ _ (o .code) (λ i c _ n. h _ i c (omega arith)) (told .4))
+        (told .0, told .1, told .2, omega arith, each-keep _ _ _ (o .code) (λ i c _ n. h _ i c (omega arith)) (told .4))
 
     pub class-kept : (class : ℕ) (o : Class) → class < k → 8 * class + 8 ≤ m → ClassTold t f P class o → ClassTold u g Q class o
     unfolding ClassTold
     class-kept class o d e told =
         rw (a .class class d)
-        (told .0, told .1, told .2, told .3, told .4, rows-keep _ _ 0 (o .methods) (λ j b _ n. method-kept (o .attrs) class j b (omega arith)) (told .5))
+        (told .0, told .1, told .2, told .3, told .4, each-keep _ _ 0 (o .methods) (λ j b _ n. method-kept (o .attrs) class j b (omega arith)) (told .5))
 
 -- the creations of the same code rows
 module _ {t u : Table} {x y : List ℕ} {k m l : ℕ} (a : Same t x u y k m l) where

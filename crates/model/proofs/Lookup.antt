@@ -2,7 +2,7 @@
 -- bytes of a code line. Assumes nothing.
 use Prim.Native.Nat.{ℕ, _+_, _≤_, _<_}
 use mathlib.Core.Option.{some}
-use mathlib.Core.Path.{_≡_, subst}
+use mathlib.Core.Path.{_≡_, refl}
 use native.Mathlib.Nat.{zero-add}
 use lib.ListN.{length, getElem?}
 use Rattle.terms.specs.Bytes.{Text}
@@ -14,7 +14,7 @@ use Rattle.model.specs.Vocabulary.Belonging.{valueIn, CodeTold, MethodTo
 use Rattle.model.specs.Bounds.{allLines, mostMethods}
 use Rattle.model.specs.Model.{Method, Class, Model}
 use Rattle.model.specs.Vocabulary.Table.{Table, rowAt, classRow, methodRow, codeRow, classesIn}
-use Rattle.model.proofs.TableRows.{item-at, rows-at}
+use Rattle.model.proofs.TableRows.{item-at, each-at}
 
 -- a text, the table that belongs to it, and the model that it gives: how many classes it has
 pub classes-at : (s : Text) (t : Table) (m : Model) → Belongs s t m → classesIn t ≡ length m
@@ -29,7 +29,7 @@ class-below m k h = item-at m k h
 module _ (s : Text) (t : Table) (m : Model) (b : Belongs s t m) (k : ℕ) (c : Class) (e : getElem? m k ≡ some c) where
   class-told : ClassTold t allLines (CodeTold s (length m) t) k c
   unfolding Belongs
-  class-told = subst (λ n. ClassTold t allLines (CodeTold s (length m) t) n c) (zero-add k) (rows-at _ 0 m k c (b .1) e)
+  class-told = each-at _ 0 m k c (b .1) e (zero-add k)
 
   pub attrs-at : rowAt t (classRow k) .0 ≡ c .attrs
   unfolding ClassTold
@@ -56,7 +56,7 @@ module _ (s : Text) (t : Table) (m : Model) (b : Belongs s t m) (k : ℕ) (c : C
   module _ (j : ℕ) (o : Method) (f : getElem? (c .methods) j ≡ some o) where
     method-told : MethodTold t allLines (CodeTold s (length m) t) (c .attrs) k j o
     unfolding ClassTold
-    method-told = subst (λ n. MethodTold t allLines (CodeTold s (length m) t) (c .attrs) k n o) (zero-add j) (rows-at _ 0 (c .methods) j o (class-told .5) f)
+    method-told = each-at _ 0 (c .methods) j o (class-told .5) f (zero-add j)
 
     pub params-at : rowAt t (methodRow k j) .0 ≡ o .params
     unfolding MethodTold
@@ -79,7 +79,7 @@ module _ (s : Text) (t : Table) (m : Model) (b : Belongs s t m) (k : ℕ) (c : C
     module _ (i : ℕ) (st : Code) (g : getElem? (o .code) i ≡ some st) where
       line-told : CodeTold s (length m) t (record { attrs = c .attrs; locals = o .locals }) (rowAt t (methodRow k j) .3 + i) st
       unfolding MethodTold
-      line-told = rows-at _ (rowAt t (methodRow k j) .3) (o .code) i st (method-told .4) g
+      line-told = each-at _ (rowAt t (methodRow k j) .3) (o .code) i st (method-told .4) g refl
 
       -- its bytes lie within the text
       pub bytes-within : (let r = rowAt t (codeRow (rowAt t (methodRow k j) .3 + i)) in r .0 + r .1 ≤ length s)

@@ -3,11 +3,13 @@
 use Prim.Native.Nat.{ℕ, suc, _+_, _≤_}
 use mathlib.Core.List.{List, [], _∷_, map}
 use mathlib.Core.Option.{some}
-use mathlib.Core.Path.{_≡_, refl, ap, ap₂, subst, _∙_}
+use mathlib.Core.Path.{_≡_, refl, ap, ap₂, _∙_}
 use native.Mathlib.Nat.{zero-add}
+use native.Mathlib.Numerals.{add-one}
 use native.Mathlib.Omega.{arith}
 use lib.ListN.{length, getD, getElem?, take, drop}
 use lib.Seq.{drop-cons}
+use Rattle.whole.specs.Lists.{EachFrom}
 use Rattle.terms.specs.declared.Limits.{Limits}
 use Rattle.code.specs.Blocks.{shapeOf, shapeNumber}
 use Rattle.code.specs.Statements.{Code}
@@ -16,33 +18,33 @@ use Rattle.code.proofs.Shapes.{shapes-of-numbers}
 use Rattle.model.specs.Bounds.{allLines}
 use Rattle.model.specs.Model.{Method, Class, Model}
 use Rattle.model.specs.Vocabulary.Belonging.{ShapeTold, MethodTold, ClassTold, Shaped}
-use Rattle.model.specs.Vocabulary.Table.{Table, Rows, rowAt, methodRow}
-use Rattle.model.proofs.TableRows.{rows-at}
+use Rattle.model.specs.Vocabulary.Table.{Table, rowAt, methodRow}
+use Rattle.model.proofs.TableRows.{each-at}
 
 -- the part of the shapes that some code lines have
-part-numbers : (x : List ℕ) (lim : Limits) (n : ℕ) (cs : List Code) → n + length cs ≤ length x → Rows (ShapeTold x lim) n cs
+part-numbers : (x : List ℕ) (lim : Limits) (n : ℕ) (cs : List Code) → n + length cs ≤ length x → EachFrom (ShapeTold x lim) n cs
     → take (length cs) (drop n x) ≡ map shapeNumber (map shapeOf cs)
-unfolding Rows ShapeTold
+unfolding EachFrom ShapeTold
 part-numbers x lim n [] h told = refl
 part-numbers x lim n (c ∷ cs) h told =
     ap (take (suc (length cs))) (drop-cons x n 0 (omega arith))
-    ∙ ap₂ _∷_ (told .0) (part-numbers x lim (suc n) cs (omega arith) (told .1))
+    ∙ ap₂ _∷_ (told .0) (rw (add-one n) at (part-numbers x lim (n + 1) cs (omega arith) (told .1)))
 
 -- the table and the shapes of a text that gives a model, and a method of it
 module _ (t : Table) (x : List ℕ) (m : Model) (b : Shaped t x m) (k : ℕ) (c : Class) (e : getElem? m k ≡ some c)
     (j : ℕ) (o : Method) (f : getElem? (c .methods) j ≡ some o) where
   class-shaped : ClassTold t allLines (ShapeTold x) k c
   unfolding Shaped
-  class-shaped = subst (λ n. ClassTold t allLines (ShapeTold x) n c) (zero-add k) (rows-at _ 0 m k c (b .1) e)
+  class-shaped = each-at _ 0 m k c (b .1) e (zero-add k)
 
   method-shaped : MethodTold t allLines (ShapeTold x) (c .attrs) k j o
   unfolding ClassTold
-  method-shaped = subst (λ n. MethodTold t allLines (ShapeTold x) (c .attrs) k n o) (zero-add j) (rows-at _ 0 (c .methods) j o (class-shaped .5) f)
+  method-shaped = each-at _ 0 (c .methods) j o (class-shaped .5) f (zero-add j)
 
   -- the shape of one line
   pub shape-at : (i : ℕ) (st : Code) → getElem? (o .code) i ≡ some st → getD x (rowAt t (methodRow k j) .3 + i) 0 ≡ shapeNumber (shapeOf st)
   unfolding MethodTold ShapeTold
-  shape-at i st g = rows-at _ (rowAt t (methodRow k j) .3) (o .code) i st (method-shaped .4) g
+  shape-at i st g = each-at _ (rowAt t (methodRow k j) .3) (o .code) i st (method-shaped .4) g refl
 
   -- those of the whole method: its part of the shapes
   pub method-shapes : shapesIn (take (length (o .code)) (drop (rowAt t (methodRow k j) .3) x)) ≡ map shapeOf (o .code)

@@ -7,6 +7,7 @@ use native.Mathlib.Nat.{add-zero}
 use native.Mathlib.Omega.{arith}
 use borrow.Author.Tests.{eq-eqb}
 use lib.ListN.{length, drop}
+use Rattle.whole.specs.Lists.{EachFrom}
 use Rattle.terms.specs.Bytes.{Text}
 use Rattle.code.specs.Blocks.{Block}
 use Rattle.code.specs.Statements.{Code}
@@ -23,11 +24,11 @@ use Rattle.model.specs.ModelText.{SoFar, mayStand, codeLine}
 use Rattle.model.specs.Vocabulary.Belonging.{LineTold}
 use Rattle.model.specs.Vocabulary.Readings.{Placed, readAt, Tells, soFar, between, LineLeft, Left, CodeLeft}
 use Rattle.model.specs.Vocabulary.Standing.{limitsOf}
-use Rattle.model.specs.Vocabulary.Table.{Table, Rows, Same}
+use Rattle.model.specs.Vocabulary.Table.{Table, Same}
 use Rattle.model.proofs.CodeTold.{may-depth, may-last}
 use Rattle.model.proofs.Framing.{same-self, same-then, line-kept}
 use Rattle.model.proofs.Onward.{told-got, onto, each-begun, each-ended, each-failed, each-onward}
-use Rattle.model.proofs.TableRows.{append-length, rows-more}
+use Rattle.model.proofs.TableRows.{append-length, each-more}
 
 -- so many of a thing are passed, from a place to another: what is left to read, with what is carried, and what is held of those passed
 pub record Passed {A : Type 0} (s : Text) (one : ℕ → SoFar → Reader (A × SoFar)) (count : ℕ) (begun : SoFar) (from here : At) (i : ℕ) (so : SoFar)
@@ -94,11 +95,11 @@ module _ (s : Text) (t : Table) (x : List ℕ) (m : MethodHead) (from : At) wher
     pub few : blocks < 65536
     pub ends : i ≡ m .count → left ≡ []
     pub passed : Passed s one (m .count) (soFar t (m .first) total []) from here i (soFar u (m .first + i) total left)
-        (λ code. (length code ≡ i) × Same t x u y 16 128 (m .first) × Rows (LineTold s (m .classes) u y (limitsOf m)) (m .first) code)
+        (λ code. (length code ≡ i) × Same t x u y 16 128 (m .first) × EachFrom (LineTold s (m .classes) u y (limitsOf m)) (m .first) code)
 
   -- none yet
   pub lines-begun : 0 < m .count → Placed s from → LinesPassed t x from 0 0
-  unfolding packedBlocks Rows
+  unfolding packedBlocks EachFrom
   lines-begun h placed = record {
     left = [];
     number = refl;
@@ -125,7 +126,7 @@ module _ (s : Text) (t : Table) (x : List ℕ) (m : MethodHead) (from : At) wher
           passed = passed-onward (p .passed) more (g .0) q (g .1) (g .2) (l .so ∙ ap (λ f. soFar v f total (l .blocks)) next) (
             append-length (p .passed .items) c ∙ ap (λ k. k + 1) (h .0),
             same-then (h .1) (l .kept) (omega arith) (omega arith) (omega arith) (omega arith) (omega arith) (omega arith),
-            rows-more _ _ (m .first) (p .passed .items) c (λ j o _ f. line-kept (l .kept) s (m .classes) (m .first + i) (omega arith) (limitsOf m) j o (omega (arith, h .0))) (h .2) (omega (arith, h .0)) (l .told),
+            each-more _ _ (m .first) (p .passed .items) c (λ j o _ f. line-kept (l .kept) s (m .classes) (m .first + i) (omega arith) (limitsOf m) j o (omega (arith, h .0))) (h .2) (omega (arith, h .0)) (l .told),
           );
         }
 

@@ -16,5 +16,5 @@ unfolding code-open Judge.givenTo Judge.countsJudged Judge.endJudged InOrder.don
     ModelText.readClass ModelText.readModel Judge.judged Judge.verdictOf Judge.judge Creations.newNumber
     Creations.creationTold Creations.creationsFrom Creations.newFits Lines.grown Lines.lines Lines.plainByte Lines.plainBytes
     Lines.sound Lines.content LineEnds.firstEnd LineEnds.soundEnd Model.runs Model.takes Model.methodOf Model.bindsTo Numbers.numberIn
-    Table.rowAt Table.classesIn Table.put Table.Rows
+    Table.rowAt Table.classesIn Table.put
 model-open = tt

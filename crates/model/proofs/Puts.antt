@@ -4,6 +4,7 @@ use mathlib.Core.List.{List, []}
 use mathlib.Core.Path.{_≡_, refl, sym, ap, subst, _∙_}
 use native.Mathlib.Omega.{arith}
 use lib.ListN.{length}
+use Rattle.whole.specs.Lists.{EachFrom}
 use Rattle.terms.specs.Bytes.{Text}
 use Rattle.code.specs.Statements.{Code}
 use Rattle.model.specs.declared.ClassHead.{ClassHead}
@@ -13,9 +14,9 @@ use Rattle.model.specs.Model.{Method, Model}
 use Rattle.model.specs.ModelText.{SoFar}
 use Rattle.model.specs.Vocabulary.Belonging.{LineTold, MethodTold, ClassTold}
 use Rattle.model.specs.Vocabulary.Readings.{Left, CodeLeft, MethodLeft, MethodsLeft, ClassLeft, ClassesLeft, ModelLeft}
-use Rattle.model.specs.Vocabulary.Table.{Table, Rows, Same, put, classRow, methodRow, modelRow, classesIn, tableSize}
+use Rattle.model.specs.Vocabulary.Table.{Table, Same, put, classRow, methodRow, modelRow, classesIn, tableSize}
 use Rattle.model.proofs.Framing.{same-self, same-then, same-put, line-kept, method-kept, class-kept, news-kept}
-use Rattle.model.proofs.TableRows.{row-own, rows-keep}
+use Rattle.model.proofs.TableRows.{row-own, each-keep}
 
 -- a row that is put after a reading: what is carried stays, and what was read is told with the row
 pub left-put : {A B : Type 0} {s : Text} {t u v : Table} {x y : List ℕ} {P : A → ℕ → Type 0} {k m i j total n : ℕ} {a : A} {so : SoFar}
@@ -48,7 +49,7 @@ method-put s t x u y sized c j total params locals count n cs so index few w e l
       refl,
       sym size,
       omega arith,
-      rows-keep _ _ total cs (λ i o _ h. line-kept same s (c .classes) 512 (omega arith) _ i o (omega (arith, l .most))) (l .told .2),
+      each-keep _ _ total cs (λ i o _ h. line-kept same s (c .classes) 512 (omega arith) _ i o (omega (arith, l .most))) (l .told .2),
     )) w e
 
 -- a class whose methods are read, and its row
@@ -69,7 +70,7 @@ class-put s t x u y sized classes k total attrs given run count n os so index fe
       refl,
       sym size,
       omega arith,
-      rows-keep _ _ 0 os (λ j o _ h. method-kept rest n n (omega arith) _ _ (line-kept rest s classes n (l .most)) attrs k j o (omega arith)) (l .told .1),
+      each-keep _ _ 0 os (λ j o _ h. method-kept rest n n (omega arith) _ _ (line-kept rest s classes n (l .most)) attrs k j o (omega arith)) (l .told .1),
     )) w e
 
 -- a text whose classes are all read, and the model's own row
@@ -81,8 +82,8 @@ model-put s t x u y sized count n got few w e l =
     let same : Same u y (put u modelRow row) y 16 128 512 = same-put u y y modelRow row (λ i h e. omega arith) (λ i j h e. omega arith) (λ i h e. omega arith) (λ i h. refl) in
     let same' : Same u y (put u modelRow row) y 0 0 512 = same-then same (same-self _ y 0 0 512) (omega arith) (omega arith) (omega arith) (omega arith) (omega arith) (omega arith) in
     let size : length (got .0) ≡ count = l .told .0 in
-    left-put l same' (omega arith) (omega arith) (λ v m n. (classesIn v ≡ length m) × (length m ≤ mostClasses) × Rows (ClassTold v n (LineTold s (length m) v y)) 0 m) (got .0) (
+    left-put l same' (omega arith) (omega arith) (λ v m n. (classesIn v ≡ length m) × (length m ≤ mostClasses) × EachFrom (ClassTold v n (LineTold s (length m) v y)) 0 m) (got .0) (
       ap (λ (r : Row). r .0) (row-own u modelRow row sized (omega arith)) ∙ sym size,
       omega arith,
-      rw size (rows-keep _ _ 0 (got .0) (λ k c _ h. class-kept same n n (omega arith) _ _ (line-kept same s count n (l .most)) k c (omega arith) (omega arith)) (l .told .1)),
+      rw size (each-keep _ _ 0 (got .0) (λ k c _ h. class-kept same n n (omega arith) _ _ (line-kept same s count n (l .most)) k c (omega arith) (omega arith)) (l .told .1)),
     ) w e

@@ -3,11 +3,11 @@ use Prim.Native.Nat.{ℕ, zero, suc, _+_, _*_, _≤_, _<_}
 use mathlib.Core.List.{List, [], _∷_, _++_}
 use mathlib.Core.Option.{some}
 use mathlib.Core.Path.{_≡_, refl, subst, _∙_}
-use native.Mathlib.Nat.{add-zero}
 use native.Mathlib.Omega.{arith}
 use lib.ListN.{length, getD, set, getElem?, length-set, length-append}
 use lib.Seq.{getD-set-same, getD-set-other}
-use Rattle.model.specs.Vocabulary.Table.{Table, width, rows, tableSize, rowAt, put, Rows}
+use Rattle.whole.specs.Lists.{EachFrom}
+use Rattle.model.specs.Vocabulary.Table.{Table, width, rows, tableSize, rowAt, put}
 use Rattle.model.specs.declared.Row.{Row}
 
 -- rows of the same numbers are the same
@@ -64,23 +64,23 @@ pub append-length : {A : Type 0} (xs : List A) (x : A) → length (xs ++ (x ∷ 
 append-length xs x = length-append xs (x ∷ [])
 
 -- what follows of each item, within the list
-pub rows-keep : {A : Type 0} (P Q : ℕ → A → Type 0) (n : ℕ) (xs : List A)
-    → ((i : ℕ) (x : A) → n ≤ i → i < n + length xs → P i x → Q i x) → Rows P n xs → Rows Q n xs
-unfolding Rows
-rows-keep P Q n [] k h = tt
-rows-keep P Q n (x ∷ xs) k h = (
+pub each-keep : {A : Type 0} (P Q : ℕ → A → Type 0) (n : ℕ) (xs : List A)
+    → ((i : ℕ) (x : A) → n ≤ i → i < n + length xs → P i x → Q i x) → EachFrom P n xs → EachFrom Q n xs
+unfolding EachFrom
+each-keep P Q n [] k h = tt
+each-keep P Q n (x ∷ xs) k h = (
   k n x (omega arith) (omega arith) (h .0),
-  rows-keep P Q (suc n) xs (λ i y l m. k i y (omega arith) (omega arith)) (h .1),
+  each-keep P Q (n + 1) xs (λ i y l m. k i y (omega arith) (omega arith)) (h .1),
 )
 
 -- and one item more
-pub rows-more : {A : Type 0} (P Q : ℕ → A → Type 0) (n : ℕ) (xs : List A) (x : A)
-    → ((i : ℕ) (x : A) → n ≤ i → i < n + length xs → P i x → Q i x) → Rows P n xs → {i : ℕ} → n + length xs ≡ i → Q i x → Rows Q n (xs ++ (x ∷ []))
-unfolding Rows
-rows-more P Q n [] x k h {i} e q = (subst (λ i. Q i x) (omega arith) q, tt)
-rows-more P Q n (y ∷ xs) x k h e q = (
+pub each-more : {A : Type 0} (P Q : ℕ → A → Type 0) (n : ℕ) (xs : List A) (x : A) → ((i : ℕ) (x : A) → n ≤ i → i < n + length xs → P i x → Q i x)
+    → EachFrom P n xs → {i : ℕ} → n + length xs ≡ i → Q i x → EachFrom Q n (xs ++ (x ∷ []))
+unfolding EachFrom
+each-more P Q n [] x k h {i} e q = (subst (λ i. Q i x) (omega arith) q, tt)
+each-more P Q n (y ∷ xs) x k h e q = (
   k n y (omega arith) (omega arith) (h .0),
-  rows-more P Q (suc n) xs x (λ i z l m. k i z (omega arith) (omega arith)) (h .1) (omega arith) q,
+  each-more P Q (n + 1) xs x (λ i z l m. k i z (omega arith) (omega arith)) (h .1) (omega arith) q,
 )
 
 -- within a list there is an item
@@ -89,9 +89,9 @@ item-at [] i h = absurd (omega arith)
 item-at (x ∷ xs) zero h = (x, refl)
 item-at (x ∷ xs) (suc i) h = item-at xs i (omega arith)
 
--- what holds of an item, by its place
-pub rows-at : {A : Type 0} (P : ℕ → A → Type 0) (n : ℕ) (xs : List A) (i : ℕ) (x : A) → Rows P n xs → getElem? xs i ≡ some x → P (n + i) x
-unfolding Rows
-rows-at P n [] i x h e = absurd (let z : _≡_ {A = ℕ} 0 1 = cc in omega arith)
-rows-at P n (y ∷ xs) zero x h e = let f : y ≡ x = cc in rw (add-zero n, ← f) (h .0)
-rows-at P n (y ∷ xs) (suc i) x h e = subst (λ j. P j x) (omega arith) (rows-at P (suc n) xs i x (h .1) e)
+-- what holds of an item, by its place and its index
+pub each-at : {A : Type 0} (P : ℕ → A → Type 0) (n : ℕ) (xs : List A) (i : ℕ) (x : A) → EachFrom P n xs → getElem? xs i ≡ some x → {k : ℕ} → n + i ≡ k → P k x
+unfolding EachFrom
+each-at P n [] i x h e f = absurd (let z : _≡_ {A = ℕ} 0 1 = cc in omega arith)
+each-at P n (y ∷ xs) zero x h e {k} f = let g : y ≡ x = cc in let z : n ≡ k = omega arith in rw (← z, ← g) (h .0)
+each-at P n (y ∷ xs) (suc i) x h e f = each-at P (n + 1) xs i x (h .1) e (omega arith)

@@ -6,6 +6,7 @@ use mathlib.Core.Path.{_≡_, refl, sym, ap, subst, _∙_}
 use native.Mathlib.Omega.{arith}
 use borrow.Author.Tests.{lt-ltb, le-ltb}
 use lib.ListN.{length, drop}
+use Rattle.whole.specs.Lists.{EachFrom}
 use Rattle.whole.specs.Refusals.{textTooLong, brokenLine, wrongKey}
 use Rattle.terms.specs.Bytes.{Text}
 use Rattle.terms.specs.declared.Limits.{Limits}
@@ -21,13 +22,13 @@ use Rattle.model.specs.ModelText.{SoFar, readModel}
 use Rattle.model.specs.Vocabulary.Belonging.{LineTold, ClassTold, Belongs, Shaped}
 use Rattle.model.specs.Vocabulary.Creations.{GivenTold}
 use Rattle.model.specs.Vocabulary.Readings.{readAt, begin}
-use Rattle.model.specs.Vocabulary.Table.{Table, Rows, rowAt, classRow, classesIn}
+use Rattle.model.specs.Vocabulary.Table.{Table, rowAt, classRow, classesIn}
 use Rattle.model.proofs.AcceptedJudged.{Ends, text-ends}
 use Rattle.model.proofs.CountsOfNew.{verdict-refusal}
 use Rattle.model.proofs.Cutting.{line-none}
 use Rattle.model.proofs.Framing.{same-self, class-kept}
 use Rattle.model.proofs.SoundEnds.{SoundLine, BrokenLine}
-use Rattle.model.proofs.TableRows.{rows-keep}
+use Rattle.model.proofs.TableRows.{each-keep}
 
 -- the end of a text whose classes are all read, and the first line left over
 module _ (r : Model × SoFar) (at : ℕ) where
@@ -92,9 +93,9 @@ unfolding Ends
 end-model r at ls n e = subst (Ends (r .0) (r .1 .creations) at) e (text-ends r at ls) .0
 
 -- a table that tells all classes of a model belongs to its text, with its shapes, and tells what each class is to be given
-module _ (s : Text) (t : Table) (x : List ℕ) (n : ℕ) (most : n ≤ allLines) (m : Model) (told : Rows (ClassTold t n (LineTold s (length m) t x)) 0 m) where
-  all-told : (Q : Limits → ℕ → Code → Type 0) → ((lim : Limits) (i : ℕ) (c : Code) → LineTold s (length m) t x lim i c → Q lim i c) → Rows (ClassTold t allLines Q) 0 m
-  all-told Q h = rows-keep _ _ 0 m (λ k c _ _. class-kept (same-self t x (suc k) (8 * k + 8) 0) n allLines most _ Q (λ lim i c _. h lim i c) k c (omega arith) (omega arith)) told
+module _ (s : Text) (t : Table) (x : List ℕ) (n : ℕ) (most : n ≤ allLines) (m : Model) (told : EachFrom (ClassTold t n (LineTold s (length m) t x)) 0 m) where
+  all-told : (Q : Limits → ℕ → Code → Type 0) → ((lim : Limits) (i : ℕ) (c : Code) → LineTold s (length m) t x lim i c → Q lim i c) → EachFrom (ClassTold t allLines Q) 0 m
+  all-told Q h = each-keep _ _ 0 m (λ k c _ _. class-kept (same-self t x (suc k) (8 * k + 8) 0) n allLines most _ Q (λ lim i c _. h lim i c) k c (omega arith) (omega arith)) told
 
   all-belongs : classesIn t ≡ length m → Belongs s t m
   unfolding Belongs LineTold
@@ -106,7 +107,7 @@ module _ (s : Text) (t : Table) (x : List ℕ) (n : ℕ) (most : n ≤ allLines)
 
   pub all-given : GivenTold t m
   unfolding ClassTold
-  all-given = rows-keep _ (λ k (c : Class). rowAt t (classRow k) .1 ≡ c .given) 0 m (λ k c _ _ h. h .1) told
+  all-given = each-keep _ (λ k (c : Class). rowAt t (classRow k) .1 ≡ c .given) 0 m (λ k c _ _ h. h .1) told
 
   -- what `read` says of a text whose classes are all read
   pub told-end : (so : SoFar) (at : ℕ) (ls : List Line) (v : Verdict) → judged s ≡ endJudged (after (m, so) at ls) → v ≡ verdictOf (endJudged (after (m, so) at ls)) → classesIn t ≡ length m → length x ≡ allLines

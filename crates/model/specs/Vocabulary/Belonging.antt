@@ -4,6 +4,7 @@ use Prim.Native.Nat.{ℕ, _+_, _≤_}
 use mathlib.Core.List.{List}
 use mathlib.Core.Path.{_≡_}
 use lib.ListN.{length, take, drop, getD}
+use Rattle.whole.specs.Lists.{EachFrom}
 use Rattle.terms.specs.Bytes.{Text}
 use Rattle.terms.specs.declared.Limits.{Limits}
 use Rattle.terms.specs.Parsed.{got}
@@ -14,7 +15,7 @@ use Rattle.code.specs.Statements.{Code}
 use Rattle.model.specs.declared.Row.{Row}
 use Rattle.model.specs.Bounds.{allLines, mostMethods}
 use Rattle.model.specs.Model.{Method, Class, Model}
-use Rattle.model.specs.Vocabulary.Table.{Table, rowAt, classRow, methodRow, codeRow, classesIn, Rows}
+use Rattle.model.specs.Vocabulary.Table.{Table, rowAt, classRow, methodRow, codeRow, classesIn}
 
 -- the bytes of a code value, by its row: the place where it begins in the text, and its length
 unfoldable pub valueIn : Text → Row → Text
@@ -35,18 +36,18 @@ module _ (t : Table) (filled : ℕ) (Told : Limits → ℕ → Code → Type 0) 
   MethodTold attrs k j m =
       let r = rowAt t (methodRow k j) in
       (r .0 ≡ m .params) × (r .1 ≡ m .locals) × (r .2 ≡ length (m .code)) × (r .3 + length (m .code) ≤ filled)
-      × Rows (Told (record { attrs = attrs; locals = m .locals })) (r .3) (m .code)
+      × EachFrom (Told (record { attrs = attrs; locals = m .locals })) (r .3) (m .code)
 
   -- a class: its counts, and its methods
   unfoldable pub ClassTold : ℕ → Class → Type 0
   ClassTold k c =
       let r = rowAt t (classRow k) in
       (r .0 ≡ c .attrs) × (r .1 ≡ c .given) × (r .2 ≡ c .run) × (r .3 ≡ length (c .methods)) × (length (c .methods) ≤ mostMethods)
-      × Rows (MethodTold (c .attrs) k) 0 (c .methods)
+      × EachFrom (MethodTold (c .attrs) k) 0 (c .methods)
 
 -- a table belongs to a text that gives a model: it tells how many classes there are, and each of them
 unfoldable pub Belongs : Text → Table → Model → Type 0
-Belongs s t m = (classesIn t ≡ length m) × Rows (ClassTold t allLines (CodeTold s (length m) t)) 0 m
+Belongs s t m = (classesIn t ≡ length m) × EachFrom (ClassTold t allLines (CodeTold s (length m) t)) 0 m
 
 -- the shape of a code line, by its number
 unfoldable pub ShapeTold : List ℕ → Limits → ℕ → Code → Type 0
@@ -54,7 +55,7 @@ ShapeTold x lim i c = getD x i 0 ≡ shapeNumber (shapeOf c)
 
 -- the shapes of all code lines of a model, where its table says
 unfoldable pub Shaped : Table → List ℕ → Model → Type 0
-Shaped t x m = (length x ≡ allLines) × Rows (ClassTold t allLines (ShapeTold x)) 0 m
+Shaped t x m = (length x ≡ allLines) × EachFrom (ClassTold t allLines (ShapeTold x)) 0 m
 
 -- both of a code line
 unfoldable pub LineTold : Text → ℕ → Table → List ℕ → Limits → ℕ → Code → Type 0

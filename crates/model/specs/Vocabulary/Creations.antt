@@ -5,11 +5,12 @@ use mathlib.Core.List.{List, [], _∷_, _++_}
 use mathlib.Core.Option.{Option, none, some}
 use mathlib.Core.Path.{_≡_}
 use lib.Dec.{eqb}
+use Rattle.whole.specs.Lists.{EachFrom}
 use Rattle.model.specs.Bounds.{mostClasses}
 use Rattle.model.specs.Judge.{givenTo}
 use Rattle.model.specs.Model.{Model}
 use Rattle.model.specs.ModelText.{Creation}
-use Rattle.model.specs.Vocabulary.Table.{Table, Rows, rowAt, classRow, codeRow}
+use Rattle.model.specs.Vocabulary.Table.{Table, rowAt, classRow, codeRow}
 
 -- a `new` as one number, of its class and of how many arguments there are; 0 for a line that is none
 unfoldable pub newNumber : Option (ℕ × ℕ) → ℕ
@@ -37,4 +38,4 @@ newFits m (suc n) = eqb (n / mostClasses) (givenTo m (n % mostClasses))
 
 -- a table tells what each class of a model is to be given
 abbrev pub GivenTold : Table → Model → Type 0
-GivenTold t m = Rows (λ k c. rowAt t (classRow k) .1 ≡ c .given) 0 m
+GivenTold t m = EachFrom (λ k c. rowAt t (classRow k) .1 ≡ c .given) 0 m

@@ -5,6 +5,7 @@ use mathlib.Core.List.{List, [], _∷_}
 use mathlib.Core.Path.{_≡_}
 use lib.Dec.{eqb}
 use lib.ListN.{length, take, drop}
+use Rattle.whole.specs.Lists.{EachFrom}
 use Rattle.terms.specs.Bytes.{Text}
 use Rattle.code.specs.Blocks.{Block}
 use Rattle.code.specs.Statements.{Code}
@@ -24,7 +25,7 @@ use Rattle.model.specs.ModelText.{SoFar, mayStand}
 use Rattle.model.specs.Vocabulary.Belonging.{MethodTold, ClassTold, LineTold}
 use Rattle.model.specs.Vocabulary.Creations.{creationsIn}
 use Rattle.model.specs.Vocabulary.Standing.{limitsOf}
-use Rattle.model.specs.Vocabulary.Table.{Table, Rows, Same, classesIn}
+use Rattle.model.specs.Vocabulary.Table.{Table, Same, classesIn}
 
 -- a place in a text that is not too long, where no more lines were passed than bytes
 abbrev pub Placed : Text → At → Type 0
@@ -87,7 +88,7 @@ module _ (s : Text) (t : Table) (x : List ℕ) (u : Table) (y : List ℕ) where
   -- all code lines of a method
   abbrev pub CodeLeft : MethodHead → List Code × SoFar → ℕ → Type 0
   CodeLeft m = Left
-      (λ cs n. (length cs ≡ m .count) × (n ≡ m .first + m .count) × Rows (LineTold s (m .classes) u y (limitsOf m)) (m .first) cs)
+      (λ cs n. (length cs ≡ m .count) × (n ≡ m .first + m .count) × EachFrom (LineTold s (m .classes) u y (limitsOf m)) (m .first) cs)
       16 128 (m .first)
 
   -- a method, and so many methods of a class
@@ -96,7 +97,7 @@ module _ (s : Text) (t : Table) (x : List ℕ) (u : Table) (y : List ℕ) where
 
   abbrev pub MethodsLeft : ClassHead → ℕ → ℕ → List Method × SoFar → ℕ → Type 0
   MethodsLeft c count total = Left
-      (λ os n. (length os ≡ count) × Rows (MethodTold u n (LineTold s (c .classes) u y) (c .attrs) (c .index)) 0 os)
+      (λ os n. (length os ≡ count) × EachFrom (MethodTold u n (LineTold s (c .classes) u y) (c .attrs) (c .index)) 0 os)
       16 (8 * c .index) total
 
   -- a class, and so many of the classes
@@ -104,10 +105,10 @@ module _ (s : Text) (t : Table) (x : List ℕ) (u : Table) (y : List ℕ) where
   ClassLeft classes k total = Left (λ c n. ClassTold u n (LineTold s classes u y) k c) k (8 * k) total
 
   abbrev pub ClassesLeft : ℕ → ℕ → Model × SoFar → ℕ → Type 0
-  ClassesLeft classes count = Left (λ m n. (length m ≡ count) × Rows (ClassTold u n (LineTold s classes u y)) 0 m) 0 0 0
+  ClassesLeft classes count = Left (λ m n. (length m ≡ count) × EachFrom (ClassTold u n (LineTold s classes u y)) 0 m) 0 0 0
 
   -- the whole text, with the model's own row
   abbrev pub ModelLeft : Model × SoFar → ℕ → Type 0
   ModelLeft = Left
-      (λ m n. (classesIn u ≡ length m) × (length m ≤ mostClasses) × Rows (ClassTold u n (LineTold s (length m) u y)) 0 m)
+      (λ m n. (classesIn u ≡ length m) × (length m ≤ mostClasses) × EachFrom (ClassTold u n (LineTold s (length m) u y)) 0 m)
       0 0 0

@@ -1,6 +1,6 @@
 -- Vocabulary of the code: the table of a text, by which later parts find its lines: a list of numbers, in rows of four. Assumes nothing.
-use Prim.Native.Nat.{ℕ, suc, _+_, _*_, _<_}
-use mathlib.Core.List.{List, [], _∷_}
+use Prim.Native.Nat.{ℕ, _+_, _*_, _<_}
+use mathlib.Core.List.{List}
 use mathlib.Core.Path.{_≡_}
 use lib.ListN.{length, getD, set}
 use Rattle.model.specs.Bounds.{allLines}
@@ -54,11 +54,6 @@ classesIn t = rowAt t modelRow .0
 unfoldable pub put : Table → ℕ → Row → Table
 put t r x =
     set (set (set (set t (r * width) (x .0)) (r * width + 1) (x .1)) (r * width + 2) (x .2)) (r * width + 3) (x .3)
-
--- what holds of each item of a list, with its number, counted on from one
-unfoldable pub Rows : {A : Type 0} → (ℕ → A → Type 0) → ℕ → List A → Type 0
-Rows P n [] = Unit {0}
-Rows P n (x ∷ xs) = P n x × Rows P (suc n) xs
 
 -- two tables, each with its shapes, have the same rows: so many classes', so many methods' of all classes, so many code lines'
 pub record Same (t : Table) (x : List ℕ) (u : Table) (y : List ℕ) (classes methods lines : ℕ) : Type 0 where

@@ -4,13 +4,14 @@ use mathlib.Core.Path.{refl, _∙_}
 use native.Mathlib.Omega.{arith}
 use borrow.Author.Needs.{needs}
 use denote.Ref.{now}
+use Rattle.whole.specs.Lists.{EachFrom}
 use Rattle.model.specs.ModelText.{readClass}
 use Rattle.model.specs.Vocabulary.Readings.{Tells, between, ClassesLeft}
-use Rattle.model.specs.Vocabulary.Table.{Rows, Sized}
+use Rattle.model.specs.Vocabulary.Table.{Sized}
 use Rattle.model.proofs.Framing.{same-self, line-kept, class-kept}
 use Rattle.model.proofs.Loops.{Passed, passed-none, passed-stopped, passed-onward, passed-all, left-then}
 use Rattle.model.proofs.Onward.{told-failed, told-got}
-use Rattle.model.proofs.TableRows.{append-length, rows-more}
+use Rattle.model.proofs.TableRows.{append-length, each-more}
 use Rattle.model.proofs.classes.all_classes.Statement.{statement}
 use Rattle.model.proofs.classes.all_classes.Tie as tie
 
@@ -24,7 +25,7 @@ abbrev μ-loop : tie.MeasureT-loop
 μ-loop text table₀ shapes₀ count here₀ all₀ k₀ table shapes here all k = count - k
 
 loop-holds : tie.Need-loop-holds Inv-loop μ-loop
-unfolding Rows
+unfolding EachFrom
 loop-holds c =
     let b = c .before .before .before in
     (passed-none (b .pre .1 .0) (record { so = refl; more = omega arith; most = omega arith; kept = same-self _ _ 0 0 0; told = (refl, tt) }), b .pre .0)
@@ -50,7 +51,7 @@ loop-again c =
     let l = g .3 in (
       passed-onward i (k .before .before .before .loop-test .taken) (g .0) _ (g .1) (g .2) (l .so) (left-then _ h l (omega arith) (omega arith) (
         rw (append-length (i .items) (g .0 .0), h .told .0) refl,
-        rows-more _ _ 0 (i .items) _ (λ k c _ d. class-kept (l .kept) _ _ (l .more) _ _ (line-kept (l .kept) (now (a .text)) (a .count) _ (omega arith)) k c (omega (arith, h .told .0)) (omega (arith, h .told .0))) (h .told .1) (omega (arith, h .told .0)) (l .told),
+        each-more _ _ 0 (i .items) _ (λ k c _ d. class-kept (l .kept) _ _ (l .more) _ _ (line-kept (l .kept) (now (a .text)) (a .count) _ (omega arith)) k c (omega (arith, h .told .0)) (omega (arith, h .told .0))) (h .told .1) (omega (arith, h .told .0)) (l .told),
       )),
       (search needs, search needs),
     )

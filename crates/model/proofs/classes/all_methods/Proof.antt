@@ -4,13 +4,14 @@ use mathlib.Core.Path.{refl, _∙_}
 use native.Mathlib.Omega.{arith}
 use borrow.Author.Needs.{needs}
 use denote.Ref.{now}
+use Rattle.whole.specs.Lists.{EachFrom}
 use Rattle.model.specs.ModelText.{readMethod}
 use Rattle.model.specs.Vocabulary.Readings.{Tells, between, MethodsLeft}
-use Rattle.model.specs.Vocabulary.Table.{Rows, Sized}
+use Rattle.model.specs.Vocabulary.Table.{Sized}
 use Rattle.model.proofs.Framing.{same-self, line-kept, method-kept}
 use Rattle.model.proofs.Loops.{Passed, passed-none, passed-stopped, passed-onward, passed-all, left-then}
 use Rattle.model.proofs.Onward.{told-failed, told-got}
-use Rattle.model.proofs.TableRows.{append-length, rows-more}
+use Rattle.model.proofs.TableRows.{append-length, each-more}
 use Rattle.model.proofs.classes.all_methods.Statement.{statement}
 use Rattle.model.proofs.classes.all_methods.Tie as tie
 
@@ -24,7 +25,7 @@ abbrev μ-loop : tie.MeasureT-loop
 μ-loop text table₀ shapes₀ class count total here₀ all₀ j₀ table shapes here all j = count - j
 
 loop-holds : tie.Need-loop-holds Inv-loop μ-loop
-unfolding Rows
+unfolding EachFrom
 loop-holds c =
     let b = c .before .before .before in
     (passed-none (b .pre .1 .0) (record { so = refl; more = omega arith; most = b .pre .1 .1 .3; kept = same-self _ _ 16 _ _; told = (refl, tt) }), b .pre .0)
@@ -51,7 +52,7 @@ loop-again c =
     let l = g .3 in (
       passed-onward i (k .before .before .before .loop-test .taken) (g .0) _ (g .1) (g .2) (l .so) (left-then _ h l (omega arith) (omega arith) (
         rw (append-length (i .items) (g .0 .0), h .told .0) refl,
-        rows-more _ _ 0 (i .items) _ (λ j o _ d. method-kept (l .kept) _ _ (l .more) _ _ (line-kept (l .kept) (now (a .text)) (a .class .classes) _ (omega arith)) _ _ j o (omega (arith, h .told .0))) (h .told .1) (omega (arith, h .told .0)) (l .told),
+        each-more _ _ 0 (i .items) _ (λ j o _ d. method-kept (l .kept) _ _ (l .more) _ _ (line-kept (l .kept) (now (a .text)) (a .class .classes) _ (omega arith)) _ _ j o (omega (arith, h .told .0))) (h .told .1) (omega (arith, h .told .0)) (l .told),
       )),
       (search needs, search needs),
     )
