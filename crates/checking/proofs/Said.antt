@@ -12,7 +12,7 @@ use Rattle.code.specs.Statements.{Code}
 use Rattle.model.specs.Model.{Model, Class, Method, runs}
 use Rattle.model.specs.Vocabulary.Table.{Table, rowAt, classRow}
 use Rattle.model.proofs.AcceptedAt.{class-accepted}
-use Rattle.model.proofs.Lookup.{attrs-at}
+use Rattle.model.proofs.Lookup.{class-at}
 use Rattle.cells.specs.Standing.{classOf, standingOf}
 use Rattle.cells.specs.Configuration.{zeroFrom, runningNamed, objectHolds, lineHolds, boundHolds}
 use Rattle.rules.specs.Exec.{classRuns}
@@ -28,7 +28,7 @@ module _ (t : Table) (told : Told t) (z : ℤ) (k : ℕ) (h : ClassSaid (told .m
   pub attributes-few : rowAt t (classRow k) .0 ≤ mostAttributes
   unfolding ClassSaid
   attributes-few =
-      omega (arith, attrs-at (told .text) t (told .model) (told .rows) k (h .1) (h .2), class-accepted (told .accepted) k (h .1) (h .2) .attrs)
+      omega (arith, class-at (told .text) t (told .model) (told .rows) k (h .1) (h .2) .attrs, class-accepted (told .accepted) k (h .1) (h .2) .attrs)
 
 -- whether an object's class has run 1
 abbrev pub runsOf : Model → Cells → ℕ → Bool

@@ -40,7 +40,8 @@ use Rattle.model.specs.Vocabulary.Known.{modelOf, Known}
 use Rattle.model.specs.Vocabulary.Table.{Table, rowAt, codeRow, classesIn}
 use Rattle.model.proofs.AcceptedAt.{method-accepted, line-accepted, new-accepted}
 use Rattle.model.proofs.AcceptedJudged.{model-accepted}
-use Rattle.model.proofs.Lookup.{classes-at, class-below, lines-few, bytes-within, bytes-at}
+use Rattle.model.proofs.Lookup.{classes-at, method-at, line-at}
+use Rattle.model.proofs.TableRows.{item-at}
 use Rattle.model.proofs.LookupShapes.{shape-at, method-shapes}
 use Rattle.cells.specs.Standing.{shapesOf}
 use Rattle.rules.specs.Exec.{here, workedOut}
@@ -151,7 +152,7 @@ module _ (s : Text) (t : Table) (x : List ℕ) (k : Known s t x) where
           few = omega (arith, method .lines .1, o .count);
           inside =
               omega
-              (arith, o .first, o .count, k .sized .1, lines-few s t (modelOf s) (k .rows) (o .index) (o .class) (o .class-there) (o .method) (o .body) (o .body-there));
+              (arith, o .first, o .count, k .sized .1, method-at s t (modelOf s) (k .rows) (o .index) (o .class) (o .class-there) (o .method) (o .body) (o .body-there) .few);
           all = k .sized .1;
           close = ap (λ ls. throughAll ls []) (sym line-shapes) ∙ method .blocks .close;
         }
@@ -175,7 +176,7 @@ module _ (s : Text) (t : Table) (x : List ℕ) (k : Known s t x) where
     line-inside =
         let o = is .of in
         subst (λ n. Inside s (rowAt t (codeRow (n + d .line)))) (sym (o .first))
-        (bytes-within s t (modelOf s) (k .rows) (o .index) (o .class) (o .class-there) (o .method) (o .body) (o .body-there) (d .line) (is .statement) (is .there))
+        (line-at s t (modelOf s) (k .rows) (o .index) (o .class) (o .class-there) (o .method) (o .body) (o .body-there) (d .line) (is .statement) (is .there) .0)
 
     -- its statement, as a tree
     line-tree : (let r = rowAt t (codeRow (d .body .first + d .line)) in
@@ -183,7 +184,7 @@ module _ (s : Text) (t : Table) (x : List ℕ) (k : Known s t x) where
     line-tree =
         let o = is .of in
         rw (o .attrs, o .locals, classes-at s t (modelOf s) (k .rows), o .first)
-        (bytes-at s t (modelOf s) (k .rows) (o .index) (o .class) (o .class-there) (o .method) (o .body) (o .body-there) (d .line) (is .statement) (is .there))
+        (line-at s t (modelOf s) (k .rows) (o .index) (o .class) (o .class-there) (o .method) (o .body) (o .body-there) (d .line) (is .statement) (is .there) .1)
 
     -- and read with its values worked out
     module _ (h : Here) where
@@ -217,7 +218,7 @@ module _ (s : Text) (t : Table) (x : List ℕ) (k : Known s t x) where
       line-new y j ws f =
           let o = is .of in
           let below : j < length (modelOf s) = subst (Small (length (modelOf s))) f line-small in
-          let kind = class-below (modelOf s) j below in
+          let kind = item-at (modelOf s) j below in
           let of : newOf (is .statement) ≡ some (j, length ws) = sym (new-mapped (valueOf e) (guardOf e) (is .statement)) ∙ ap newOf f in (
             below,
             kind .0,

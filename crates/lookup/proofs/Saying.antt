@@ -22,7 +22,7 @@ use Rattle.layout.proofs.Numbers.{object-in-use}
 use Rattle.code.specs.Statements.{Code}
 use Rattle.model.specs.Model.{Model, Class, Method, runs, takes, methodOf, bindsTo}
 use Rattle.model.specs.Vocabulary.Table.{Table, rowAt, classRow, classesIn}
-use Rattle.model.proofs.Lookup.{classes-at, methods-at, methods-few}
+use Rattle.model.proofs.Lookup.{classes-at, class-at}
 use Rattle.model.proofs.TableRows.{item-at}
 use Rattle.cells.specs.Standing.{bodyOf, standingOf}
 use Rattle.rules.specs.Exec.{classRuns}
@@ -97,7 +97,7 @@ module _ (t : Table) (told : Told t) (k : ℕ) (h : k < classesIn t) where
   method-few =
       let here : k < length (told .model) = omega (arith, classes-at _ _ _ (told .rows)) in
       let i = item-at (told .model) k here in
-      omega (arith, methods-at _ _ _ (told .rows) k (i .0) (i .1), methods-few _ _ _ (told .rows) k (i .0) (i .1))
+      omega (arith, class-at _ _ _ (told .rows) k (i .0) (i .1) .methods, class-at _ _ _ (told .rows) k (i .0) (i .1) .few)
 
 -- a class runs as its own number says, and one that is not there does not
 pub runs-at : (m : Model) (k : ℕ) (c : Class) → getElem? m k ≡ some c → eqb (c .run) 1 ≡ classRuns m k

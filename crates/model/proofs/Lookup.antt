@@ -1,6 +1,6 @@
 -- What parts above look up in the table of a text, without opening it: the number of classes, the counts of a class and of a method, and the
 -- bytes of a code line. Assumes nothing.
-use Prim.Native.Nat.{ℕ, _+_, _≤_, _<_}
+use Prim.Native.Nat.{ℕ, _+_, _≤_}
 use mathlib.Core.Option.{some}
 use mathlib.Core.Path.{_≡_, refl}
 use native.Mathlib.Nat.{zero-add}
@@ -14,43 +14,37 @@ use Rattle.model.specs.Vocabulary.Belonging.{valueIn, CodeTold, MethodTo
 use Rattle.model.specs.Bounds.{allLines, mostMethods}
 use Rattle.model.specs.Model.{Method, Class, Model}
 use Rattle.model.specs.Vocabulary.Table.{Table, rowAt, classRow, methodRow, codeRow, classesIn}
-use Rattle.model.proofs.TableRows.{item-at, each-at}
+use Rattle.model.proofs.TableRows.{each-at}
 
 -- a text, the table that belongs to it, and the model that it gives: how many classes it has
 pub classes-at : (s : Text) (t : Table) (m : Model) → Belongs s t m → classesIn t ≡ length m
 unfolding Belongs
 classes-at s t m b = b .0
 
--- a class below that number is there
-pub class-below : (m : Model) (k : ℕ) → k < length m → (c : Class) × (getElem? m k ≡ some c)
-class-below m k h = item-at m k h
+-- the row of a class: its counts, and every method has a row of its own
+pub record ClassRow (t : Table) (k : ℕ) (c : Class) : Type 0 where
+  pub attrs : rowAt t (classRow k) .0 ≡ c .attrs
+  pub given : rowAt t (classRow k) .1 ≡ c .given
+  pub run : rowAt t (classRow k) .2 ≡ c .run
+  pub methods : rowAt t (classRow k) .3 ≡ length (c .methods)
+  pub few : length (c .methods) ≤ mostMethods
 
--- and a class of it
+-- the row of a method: its counts, and every code line has a row of its own
+pub record MethodRow (t : Table) (k j : ℕ) (o : Method) : Type 0 where
+  pub params : rowAt t (methodRow k j) .0 ≡ o .params
+  pub locals : rowAt t (methodRow k j) .1 ≡ o .locals
+  pub lines : rowAt t (methodRow k j) .2 ≡ length (o .code)
+  pub few : rowAt t (methodRow k j) .3 + length (o .code) ≤ allLines
+
+-- a class of it
 module _ (s : Text) (t : Table) (m : Model) (b : Belongs s t m) (k : ℕ) (c : Class) (e : getElem? m k ≡ some c) where
   class-told : ClassTold t allLines (CodeTold s (length m) t) k c
   unfolding Belongs
   class-told = each-at _ 0 m k c (b .1) e (zero-add k)
 
-  pub attrs-at : rowAt t (classRow k) .0 ≡ c .attrs
+  pub class-at : ClassRow t k c
   unfolding ClassTold
-  attrs-at = class-told .0
-
-  pub given-at : rowAt t (classRow k) .1 ≡ c .given
-  unfolding ClassTold
-  given-at = class-told .1
-
-  pub run-at : rowAt t (classRow k) .2 ≡ c .run
-  unfolding ClassTold
-  run-at = class-told .2
-
-  pub methods-at : rowAt t (classRow k) .3 ≡ length (c .methods)
-  unfolding ClassTold
-  methods-at = class-told .3
-
-  -- every method has a row of its class
-  pub methods-few : length (c .methods) ≤ mostMethods
-  unfolding ClassTold
-  methods-few = class-told .4
+  class-at = let r = class-told in record { attrs = r .0; given = r .1; run = r .2; methods = r .3; few = r .4 }
 
   -- a method of the class
   module _ (j : ℕ) (o : Method) (f : getElem? (c .methods) j ≡ some o) where
@@ -58,36 +52,12 @@ module _ (s : Text) (t : Table) (m : Model) (b : Belongs s t m) (k : ℕ) (c : C
     unfolding ClassTold
     method-told = each-at _ 0 (c .methods) j o (class-told .5) f (zero-add j)
 
-    pub params-at : rowAt t (methodRow k j) .0 ≡ o .params
+    pub method-at : MethodRow t k j o
     unfolding MethodTold
-    params-at = method-told .0
+    method-at = let r = method-told in record { params = r .0; locals = r .1; lines = r .2; few = r .3 }
 
-    pub locals-at : rowAt t (methodRow k j) .1 ≡ o .locals
-    unfolding MethodTold
-    locals-at = method-told .1
-
-    pub lines-at : rowAt t (methodRow k j) .2 ≡ length (o .code)
-    unfolding MethodTold
-    lines-at = method-told .2
-
-    -- every code line of it has a row
-    pub lines-few : rowAt t (methodRow k j) .3 + length (o .code) ≤ allLines
-    unfolding MethodTold
-    lines-few = method-told .3
-
-    -- a code line of the method
-    module _ (i : ℕ) (st : Code) (g : getElem? (o .code) i ≡ some st) where
-      line-told : CodeTold s (length m) t (record { attrs = c .attrs; locals = o .locals }) (rowAt t (methodRow k j) .3 + i) st
-      unfolding MethodTold
-      line-told = each-at _ (rowAt t (methodRow k j) .3) (o .code) i st (method-told .4) g refl
-
-      -- its bytes lie within the text
-      pub bytes-within : (let r = rowAt t (codeRow (rowAt t (methodRow k j) .3 + i)) in r .0 + r .1 ≤ length s)
-      unfolding CodeTold
-      bytes-within = line-told .0
-
-      -- and, read, they are the statement of the model
-      pub bytes-at : (let r = rowAt t (codeRow (rowAt t (methodRow k j) .3 + i)) in
-          statement trees guardTrees (record { attrs = c .attrs; locals = o .locals }) (length m) (valueIn s r) ≡ got (r .1) st)
-      unfolding CodeTold
-      bytes-at = line-told .1
+    -- a code line of the method: its bytes lie within the text and, read, they are the statement of the model
+    pub line-at : (i : ℕ) (st : Code) → getElem? (o .code) i ≡ some st → (let r = rowAt t (codeRow (rowAt t (methodRow k j) .3 + i)) in
+        (r .0 + r .1 ≤ length s) × (statement trees guardTrees (record { attrs = c .attrs; locals = o .locals }) (length m) (valueIn s r) ≡ got (r .1) st))
+    unfolding MethodTold CodeTold
+    line-at i st g = each-at _ (rowAt t (methodRow k j) .3) (o .code) i st (method-told .4) g refl

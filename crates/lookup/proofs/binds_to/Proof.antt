@@ -12,7 +12,7 @@ use Rattle.whole.specs.Whole.{natural}
 use Rattle.whole.specs.Vocabulary.Naturals.{asNatural}
 use Rattle.whole.proofs.Ranges.{natural-some, natural-none}
 use Rattle.model.specs.declared.Row.{Row}
-use Rattle.model.proofs.Lookup.{methods-at, attrs-at}
+use Rattle.model.proofs.Lookup.{class-at}
 use Rattle.model.proofs.TableRows.{item-at}
 use Rattle.lookup.proofs.Saying.{class-few, method-few, bound-not, bound-past, bound-is}
 use Rattle.lookup.specs.Vocabulary.Found.{BodySaid, taken}
@@ -62,17 +62,17 @@ returns-2 c s m k b e =
     let j = c .before .before .before .before .j .given in
     let o = c .before .before .before .before .before .before .before .before .before in
     let row = c .before .before .before .before .before .before .before .row .ensures in
-    let n = ap (λ (x : Row). x .3) row ∙ methods-at s _ m b _ k e in
+    let n = ap (λ (x : Row). x .3) row ∙ class-at s _ m b _ k e .methods in
     let h : j .0 .0 < length (k .methods) = omega arith in
     let i = item-at (k .methods) (j .0 .0) h in
-    let d = c .takes .ensures s m k (i .0) b e (i .1) (ap (λ (x : Row). x .0) row ∙ attrs-at s _ m b _ k e) in
+    let d = c .takes .ensures s m k (i .0) b e (i .1) (ap (λ (x : Row). x .0) row ∙ class-at s _ m b _ k e .attrs) in
     subst (λ x. BodySaid (now (o .args .table)) m x (c .takes .result))
     (ap (taken (i .0)) (toZ-ofZ w32 _ (o .fits .args)) ∙ sym (bound-is m _ _ _ k _ e (method-is (c .before .before .before .before)) (i .0) (i .1))) d
 
 returns-3 : tie.Need-returns-3
 unfolding BodySaid
 returns-3 c s m k b e =
-    let n = ap (λ (x : Row). x .3) (c .before .before .before .before .before .before .row .ensures) ∙ methods-at s _ m b _ k e in
+    let n = ap (λ (x : Row). x .3) (c .before .before .before .before .before .before .row .ensures) ∙ class-at s _ m b _ k e .methods in
     bound-past m _ _ _ k _ e (method-is (c .before .before .before)) (omega arith)
 
 pub binds-to-spec : {M : Type 1} → statement M

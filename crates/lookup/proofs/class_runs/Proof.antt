@@ -6,7 +6,8 @@ use native.Mathlib.Omega.{arith}
 use lib.Dec.{eqb}
 use lib.ListN.{length}
 use Rattle.model.specs.declared.Row.{Row}
-use Rattle.model.proofs.Lookup.{classes-at, class-below, run-at}
+use Rattle.model.proofs.Lookup.{classes-at, class-at}
+use Rattle.model.proofs.TableRows.{item-at}
 use Rattle.lookup.proofs.Saying.{class-few, runs-at, runs-past}
 use Rattle.lookup.proofs.class_runs.Statement.{statement}
 use Rattle.lookup.proofs.class_runs.Tie as tie
@@ -24,8 +25,8 @@ returns c s m b =
     let k = c .before .before .before .before .before .args .class in
     let n = classes-at s _ m b in
     let h : k < length m = omega arith in
-    let i = class-below m k h in
-    ap (λ (x : Row). eqb (x .2) 1) (c .before .row .ensures) ∙ ap (λ n. eqb n 1) (run-at s _ m b k (i .0) (i .1)) ∙ runs-at m k (i .0) (i .1)
+    let i = item-at m k h in
+    ap (λ (x : Row). eqb (x .2) 1) (c .before .row .ensures) ∙ ap (λ n. eqb n 1) (class-at s _ m b k (i .0) (i .1) .run) ∙ runs-at m k (i .0) (i .1)
 
 returns-2 : tie.Need-returns-2
 returns-2 c s m b = let n = classes-at s _ m b in runs-past m _ (omega arith)

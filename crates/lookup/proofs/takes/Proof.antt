@@ -8,7 +8,7 @@ use mir.Syntax.{w32}
 use mir.ValLaws.{toZ-ofZ}
 use Rattle.whole.specs.Whole.{eqZ}
 use Rattle.model.specs.declared.Row.{Row}
-use Rattle.model.proofs.Lookup.{params-at, locals-at, lines-at}
+use Rattle.model.proofs.Lookup.{method-at}
 use Rattle.lookup.proofs.Saying.{taken-is, taken-not}
 use Rattle.lookup.specs.Vocabulary.Found.{BodySaid}
 use Rattle.lookup.proofs.takes.Statement.{statement}
@@ -41,10 +41,10 @@ returns c s m k b t e f a =
       body = b;
       class-there = e;
       body-there = f;
-      is = taken-is b _ (test (c .before) true _ (c .if1 .taken) (ap (λ (x : Row). x .0) row ∙ params-at s _ m t _ k e _ b f));
+      is = taken-is b _ (test (c .before) true _ (c .if1 .taken) (ap (λ (x : Row). x .0) row ∙ method-at s _ m t _ k e _ b f .params));
       attrs = a;
-      locals = ap (λ (x : Row). x .1) row ∙ locals-at s _ m t _ k e _ b f;
-      count = ap (λ (x : Row). x .2) row ∙ lines-at s _ m t _ k e _ b f;
+      locals = ap (λ (x : Row). x .1) row ∙ method-at s _ m t _ k e _ b f .locals;
+      count = ap (λ (x : Row). x .2) row ∙ method-at s _ m t _ k e _ b f .lines;
       first = ap (λ (x : Row). x .3) row;
     }
 
@@ -52,7 +52,7 @@ returns-2 : tie.Need-returns-2
 unfolding BodySaid
 returns-2 c s m k b t e f a =
     let row = c .before .before .method-row .ensures in
-    taken-not b _ (test (c .before) false _ (c .if1 .left) (ap (λ (x : Row). x .0) row ∙ params-at s _ m t _ k e _ b f))
+    taken-not b _ (test (c .before) false _ (c .if1 .left) (ap (λ (x : Row). x .0) row ∙ method-at s _ m t _ k e _ b f .params))
 
 pub takes-spec : {M : Type 1} → statement M
 takes-spec = tie.close (tie.spec method-row-requires is-number-requires returns returns-2)

@@ -10,7 +10,7 @@ use Rattle.layout.specs.Layout.{mostAttributes, ofObject, class, attribute}
 use Rattle.model.specs.declared.Row.{Row}
 use Rattle.model.specs.Model.{Model, Class}
 use Rattle.model.specs.Vocabulary.Belonging.{Belongs}
-use Rattle.model.proofs.Lookup.{attrs-at}
+use Rattle.model.proofs.Lookup.{class-at}
 use Rattle.cells.specs.Configuration.{zeroFrom}
 use Rattle.lookup.specs.declared.ClassFound.the-variants as Found
 use Rattle.lookup.specs.Vocabulary.Found.{ClassSaid}
@@ -33,7 +33,7 @@ attributes-told : (c : tie.After-attributes-zero) (s : Text) (m : Model)
 attributes-told c s m b d e =
     let a = c .before .before .before .before .before .before .before .args in
     c .attributes-zero .ensures
-    ∙ ap (λ n. zeroFrom mostAttributes n (λ i. ofObject (now (a .cells)) (a .o .0) (attribute i))) (ap (λ (x : Row). x .0) (c .before .row .ensures) ∙ attrs-at s _ m b _ d e)
+    ∙ ap (λ n. zeroFrom mostAttributes n (λ i. ofObject (now (a .cells)) (a .o .0) (attribute i))) (ap (λ (x : Row). x .0) (c .before .row .ensures) ∙ class-at s _ m b _ d e .attrs)
 
 class-of-requires : tie.Need-class-of-requires
 class-of-requires c κs = search needs
