@@ -17,11 +17,13 @@ use Rattle.terms.specs.Trees.{trees, guardTrees}
 use Rattle.terms.proofs.Gives.{Gives}
 use Rattle.code.specs.declared.Shape.{Shape}
 use Rattle.code.specs.declared.Shape.the-variants as Shape
-use Rattle.code.specs.Blocks.{Block, isShape, shapeNumber, shapeOf, through, throughAll}
+use Rattle.code.specs.Blocks.{Block, isShape, shapeOf, through, throughAll}
 use Rattle.code.specs.Reader.{statement}
 use Rattle.code.specs.Statements.{Code}
+use Rattle.code.specs.Vocabulary.Shapes.{shapeAt}
 use Rattle.code.specs.Within.{CodeWithin}
 use Rattle.code.proofs.ReadWithin.{gives-statement}
+use Rattle.code.proofs.Shapes.{shape-of-number}
 use Rattle.code.proofs.Stacks.{all-nil, all-some}
 use Rattle.model.specs.Accepted.{AcceptedBlocks}
 use Rattle.model.specs.Bounds.{deepest}
@@ -77,27 +79,13 @@ unfolding mayStand
 may-depth true c bs e = let z : length bs ≡ 0 = eqb-true _ _ (both-right (isShape Shape.Return (shapeOf c)) _ e) in omega arith
 may-depth false c bs e = leb-true _ _ e
 
--- a line of that shape
-is-return : (l : Shape) → isShape Shape.Return l ≡ true → l ≡ Shape.Return
-unfolding isShape shapeNumber
-is-return l e = go l (eqb-true _ _ e)
-  where
-    go : (l : Shape) → 5 ≡ shapeNumber l → l ≡ Shape.Return
-    go Shape.If e = absurd (omega arith)
-    go Shape.Else e = absurd (omega arith)
-    go Shape.Fi e = absurd (omega arith)
-    go Shape.While e = absurd (omega arith)
-    go Shape.Od e = absurd (omega arith)
-    go Shape.Return e = refl
-    go Shape.Await e = absurd (omega arith)
-    go Shape.Plain e = absurd (omega arith)
-
 -- a last line that may stand is a `return`, and leaves no block open
 pub may-last : (c : Code) (bs : List Block) → mayStand true c bs ≡ true → (bs ≡ []) × (shapeOf c ≡ Shape.Return)
-unfolding mayStand
+unfolding mayStand isShape
 may-last c bs e =
     let outside = both-right (isShape Shape.Return (shapeOf c)) (eqb (length bs) 0) e in
-    (no-items bs (eqb-true _ _ outside), is-return (shapeOf c) (both-left (isShape Shape.Return (shapeOf c)) _ e))
+    let number = eqb-true _ _ (both-left (isShape Shape.Return (shapeOf c)) _ e) in
+    (no-items bs (eqb-true _ _ outside), sym (shape-of-number (shapeOf c)) ∙ ap shapeAt (sym number) ∙ shape-of-number Shape.Return)
 
 module _ (last : ℕ) (lim : Limits) (classes count : ℕ) where
   -- the lines of a method, or some of them

@@ -41,16 +41,6 @@ given-told t m k told h =
     let c = item-at m k h in
     given-of m k (c .0) (c .1) ∙ sym (each-at (λ i (x : Class). rowAt t (classRow i) .1 ≡ x .given) 0 m k (c .0) told (c .1) (zero-add k))
 
--- the first of some creations: its count fits, or it is refused
-module _ (m : Model) (c : Creation) (cs : List Creation) where
-  pub counts-fit : eqb (c .count) (givenTo m (c .class)) ≡ true → countsJudged m (c ∷ cs) ≡ countsJudged m cs
-  unfolding countsJudged
-  counts-fit e = rw (countsJudged, e)
-
-  pub counts-differ : eqb (c .count) (givenTo m (c .class)) ≡ false → countsJudged m (c ∷ cs) ≡ refusal (record { number = wrongCode; line = c .at })
-  unfolding countsJudged
-  counts-differ e = rw (countsJudged, e)
-
 -- the number of a line that is no `new`, and of one that is
 module _ (m : Model) (n : ℕ) where
   pub fits-none : n ≡ 0 → newFits m n ≡ true
@@ -68,15 +58,15 @@ module _ (m : Model) (n : ℕ) where
 module _ (m : Model) (at : ℕ) (cs : List Creation) where
   -- one that fits leaves the verdict to those that come after it
   told-onward : (n : ℕ) → newFits m n ≡ true → countsJudged m (creationTold at n ++ cs) ≡ countsJudged m cs
-  unfolding creationTold newFits
+  unfolding creationTold newFits countsJudged
   told-onward zero e = refl
-  told-onward (suc n) e = counts-fit m _ cs e
+  told-onward (suc n) e = rw (countsJudged, e)
 
   -- the first that does not is refused at its line
   told-here : (n : ℕ) → newFits m n ≡ false → countsJudged m (creationTold at n ++ cs) ≡ refusal (record { number = wrongCode; line = at })
-  unfolding creationTold newFits
+  unfolding creationTold newFits countsJudged
   told-here zero e = absurd (let z : _≡_ {A = ℕ} 0 1 = cc in omega arith)
-  told-here (suc n) e = counts-differ m _ cs e
+  told-here (suc n) e = rw (countsJudged, e)
 
 -- the code row at a place, with those after it
 module _ (t : Table) (m : Model) (i total : ℕ) (within : i < total) where
