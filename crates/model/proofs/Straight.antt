@@ -8,18 +8,19 @@ use mathlib.Core.Path.{_≡_, refl, sym, ap, ap₂, subst, _∙_}
 use native.Mathlib.Nat.{add-zero, le-of-lt}
 use native.Mathlib.Numerals.{add-one}
 use native.Mathlib.Omega.{arith}
-use borrow.Author.Tests.{le-leb, lt-leb, leb-true, leb-false, ltb-true, ltb-false, eqb-true, eqb-false, ne-eqb, eq-eqb}
-use lib.Dec.{leb, ltb, eqb}
-use lib.ListN.{length, take, drop, length-take, length-drop}
-use lib.Seq.{getD-take, getD-drop, drop-cons, drop-length}
+use borrow.Author.Tests.{le-leb, lt-leb, leb-true, leb-false, eqb-true, eqb-false, ne-eqb, eq-eqb}
+use lib.Dec.{leb, eqb}
+use lib.ListN.{length, take, drop, length-drop}
+use lib.Seq.{getD-drop, drop-cons, drop-length}
 use Rattle.whole.proofs.Both.{both-left, both-right}
 use Rattle.terms.specs.Bytes.{Text, byteAt, digit}
 use Rattle.terms.specs.Leaves.{counting, decimal}
 use Rattle.terms.specs.Parsed.{Parsed, got, bad, next, word, repeated}
-use Rattle.terms.proofs.Bytes.{below-digits, above-digits, digit-is}
-use Rattle.terms.proofs.Digits.{counting-none, counting-more, counting-past, counting-moves, counting-stops, decimal-none, decimal-past, decimal-zero, decimal-more, decimal-moves, decimal-below, digit-within}
+use Rattle.terms.proofs.Bytes.{below-digits, above-digits}
+use Rattle.terms.proofs.Digits.{counting-none, counting-more, counting-past, decimal-none, decimal-past, decimal-zero, decimal-more, decimal-moves, decimal-below, digit-within}
 use Rattle.terms.proofs.Following.{next-of-got, next-of-bad, repeated-none, repeated-some}
-use Rattle.terms.proofs.Moving.{enough, no-got, same-place, same-read, past-end, within-text, word-yes, word-no, word-none, word-on}
+use Rattle.terms.proofs.Moving.{no-got, same-place, same-read, within-text, word-yes, word-no, word-on}
+use Rattle.terms.proofs.Parts.{Free, shifted, unshifted, part-length, word-part, decimal-part}
 use Rattle.whole.specs.Refusals.{wrongNumber}
 use Rattle.model.specs.declared.At.{At}
 use Rattle.model.specs.declared.Keyed.{Keyed}
@@ -37,116 +38,18 @@ use Rattle.model.proofs.Plain.{first-plain, plain-bounds, plain-from, p
 use Rattle.model.proofs.ReadBounds.{number-is, word-within}
 use Rattle.model.proofs.SoundEnds.{sound-unended, SoundLine, sound-found, end-from-plain, end-here}
 
--- what was read in a part of a text, by the places of the whole
-shifted : {A : Type 0} → ℕ → Parsed A → Parsed A
-shifted b (got p a) = got (b + p) a
-shifted b (bad p) = bad (b + p)
+-- an LF is no digit
+no-digit : digit lineFeed ≡ none
+no-digit = below-digits lineFeed (omega arith)
 
--- a part of a text that has an LF behind it
-module _ (s : Text) (b e : ℕ) (from : b ≤ e) (within : e < length s) (fed : byteAt s e ≡ lineFeed) where
-  abbrev part : Text
-  part = take (e - b) (drop b s)
-
-  part-length : length part ≡ e - b
-  part-length = omega (arith, length-take (e - b) (drop b s), length-drop b s)
-
-  -- a byte of it, or the LF, by whatever takes the LF for what stands past an end
-  same-at : {X : Type 0} (f : ℕ → X) → f 0 ≡ f lineFeed → (i : ℕ) → b + i ≤ e → f (byteAt s (b + i)) ≡ f (byteAt part i)
-  same-at f h i k = go (ltb (b + i) e) refl
-    where
-      go : (t : Bool) → ltb (b + i) e ≡ t → f (byteAt s (b + i)) ≡ f (byteAt part i)
-      go true u =
-          let l : b + i < e = ltb-true _ _ u in
-          ap f (sym (getD-take (e - b) (drop b s) i 0 (omega arith) ∙ getD-drop b s i 0))
-      go false u =
-          let l : e ≤ b + i = ltb-false _ _ u in
-          let n : b + i ≡ e = omega arith in
-          ap f (ap (byteAt s) n ∙ fed) ∙ sym h ∙ ap f (sym (past-end part i (omega (arith, part-length))))
-
-  -- a byte that is found there stands in the part
-  found-at : (i : ℕ) → b + i ≤ e → 0 < byteAt part i → b + (i + 1) ≤ e
-  found-at i k h = omega (arith, within-text part i (byteAt part i) refl h, part-length)
-
-  -- a word without LF
-  word-part : (w : Text) → plainBytes w ≡ true → (i : ℕ) → b + i ≤ e → word w s (b + i) ≡ shifted b (word w part i)
-  unfolding shifted
-  word-part [] h i k = word-none s (b + i) ∙ sym (ap (shifted b) (word-none part i))
-  word-part (c ∷ w) h i k = go (eqb (byteAt part i) c) refl (word-part w (first-plain c w h .1) (i + 1))
-    where
-      plain : (32 ≤ c) × (c ≤ 126)
-      plain = plain-bounds c (first-plain c w h .0)
-
-      same : eqb (byteAt s (b + i)) c ≡ eqb (byteAt part i) c
-      same = same-at (λ x. eqb x c) (ne-eqb 0 c (λ z. omega (arith, plain)) ∙ sym (ne-eqb lineFeed c (λ z. omega (arith, plain)))) i k
-
-      go : (t : Bool) → eqb (byteAt part i) c ≡ t → (b + (i + 1) ≤ e → word w s (b + (i + 1)) ≡ shifted b (word w part (i + 1)))
-          → word (c ∷ w) s (b + i) ≡ shifted b (word (c ∷ w) part i)
-      go false f rest = word-no c w s (b + i) (same ∙ f) ∙ sym (ap (shifted b) (word-no c w part i f))
-      go true f rest =
-          let z : byteAt part i ≡ c = eqb-true _ _ f in
-          let n : (b + i) + 1 ≡ b + (i + 1) = omega arith in
-          word-yes c w s (b + i) (same ∙ f)
-          ∙ ap (word w s) n
-          ∙ rest (found-at i k (omega (arith, plain)))
-          ∙ sym (ap (shifted b) (word-yes c w part i f))
-
-  -- a digit
-  digit-part : (i : ℕ) → b + i ≤ e → digit (byteAt s (b + i)) ≡ digit (byteAt part i)
-  unfolding digit
-  digit-part = same-at digit refl
-
-  -- digits
-  digits-part : (most n : ℕ) (i k : ℕ) → b + i ≤ e → repeated (counting most s) n (b + i) k ≡ shifted b (repeated (counting most part) n i k)
-  unfolding shifted
-  digits-part most zero i k h = unfold repeated in refl
-  digits-part most (suc n) i k h = go (digit (byteAt part i)) refl (digits-part most n (i + 1))
-    where
-      Rest : Type 0
-      Rest = (k : ℕ) → b + (i + 1) ≤ e → repeated (counting most s) n (b + (i + 1)) k ≡ shifted b (repeated (counting most part) n (i + 1) k)
-
-      go : (o : Option ℕ) → digit (byteAt part i) ≡ o → Rest → repeated (counting most s) (suc n) (b + i) k ≡ shifted b (repeated (counting most part) (suc n) i k)
-      go none f rest =
-          repeated-none (counting most s) n (b + i) k (counting-none most s (b + i) k (digit-part i h ∙ f))
-          ∙ sym (ap (shifted b) (repeated-none (counting most part) n i k (counting-none most part i k f)))
-      go (some d) f rest = test (leb (k * 10 + d) most) refl
-        where
-          test : (t : Bool) → leb (k * 10 + d) most ≡ t → repeated (counting most s) (suc n) (b + i) k ≡ shifted b (repeated (counting most part) (suc n) i k)
-          test true u =
-              let m : (b + i) + 1 ≡ b + (i + 1) = omega arith in
-              repeated-some (counting most s) n (b + i) k _ (counting-more most s (b + i) k d (digit-part i h ∙ f) (leb-true _ _ u))
-              ∙ next-of-got _ _ _
-              ∙ ap (λ j. repeated (counting most s) n j (k * 10 + d)) m
-              ∙ rest (k * 10 + d) (found-at i h (digit-is (byteAt part i) d f .0))
-              ∙ sym (ap (shifted b) (repeated-some (counting most part) n i k _ (counting-more most part i k d f (leb-true _ _ u)) ∙ next-of-got _ _ _))
-          test false u =
-              repeated-some (counting most s) n (b + i) k _ (counting-past most s (b + i) k d (digit-part i h ∙ f) (leb-false _ _ u))
-              ∙ next-of-bad _ _
-              ∙ sym (ap (shifted b) (repeated-some (counting most part) n i k _ (counting-past most part i k d f (leb-false _ _ u)) ∙ next-of-bad _ _))
-
-  -- a decimal
-  decimal-part : (most : ℕ) → decimal most s b ≡ shifted b (decimal most part 0)
-  unfolding shifted
-  decimal-part most = go (digit (byteAt part 0)) refl
-    where
-      here : digit (byteAt s b) ≡ digit (byteAt part 0)
-      here = ap (λ i. digit (byteAt s i)) (sym (add-zero b)) ∙ digit-part 0 (omega arith)
-
-      go : (o : Option ℕ) → digit (byteAt part 0) ≡ o → decimal most s b ≡ shifted b (decimal most part 0)
-      go none f = decimal-none most s b (here ∙ f) ∙ ap bad (sym (add-zero b)) ∙ sym (ap (shifted b) (decimal-none most part 0 f))
-      go (some d) f = test (leb d most) refl (eqb d 0) refl
-        where
-          test : (t : Bool) → leb d most ≡ t → (u : Bool) → eqb d 0 ≡ u → decimal most s b ≡ shifted b (decimal most part 0)
-          test false t u v =
-              decimal-past most s b d (here ∙ f) (leb-false _ _ t) ∙ ap bad (sym (add-zero b)) ∙ sym (ap (shifted b) (decimal-past most part 0 d f (leb-false _ _ t)))
-          test true t true v =
-              let z = eqb-true d 0 v in
-              decimal-zero most s b (here ∙ f ∙ ap some z) ∙ sym (ap (shifted b) (decimal-zero most part 0 (f ∙ ap some z)))
-          test true t false v =
-              decimal-more most s b d (here ∙ f) (leb-true _ _ t) (eqb-false _ _ v)
-              ∙ digits-part most (length s) 1 d (found-at 0 (omega arith) (digit-is (byteAt part 0) d f .0))
-              ∙ ap (shifted b)
-              (enough (counting most part) (counting-moves most part) (length part) (counting-stops most part) (length s) (length part) 1 d (omega (arith, part-length)) (omega arith)
-              ∙ sym (decimal-more most part 0 d f (leb-true _ _ t) (eqb-false _ _ v)))
+-- a plain word has neither 0 nor an LF
+plain-free : (w : Text) → plainBytes w ≡ true → Free lineFeed w
+unfolding Free
+plain-free [] h = tt
+plain-free (c ∷ w) h =
+    let p = first-plain c w h in
+    let l = plain-bounds c (p .0) in
+    (λ e. omega (arith, l), λ e. omega (arith, l), plain-free w (p .1))
 
 -- a word that was read is what stands there
 word-front : (w s : Text) (at p : ℕ) → plainBytes w ≡ true → word w s at ≡ got p tt → take (length w) (drop at s) ≡ w
@@ -273,12 +176,6 @@ stood key s low most at q n e = by-key (word key s at) refl
     by-key (bad p) f = absurd (no-got _ _ _ (sym (straight-no-key key s low most at p f) ∙ e))
     by-key (got p u) f = by-number p f (decimal most s p) refl
 
--- a decimal in a part of a text, by the places of the part
-unshifted : {A : Type 0} (b : ℕ) (x : Parsed A) (p : ℕ) (a : A) → shifted b x ≡ got (b + p) a → x ≡ got p a
-unfolding shifted
-unshifted b (got q c) p a e = let l : b + q ≡ b + p = cc in let m : q ≡ p = omega arith in let d : c ≡ a = cc in ap₂ got m d
-unshifted b (bad q) p a e = absurd (no-got _ _ _ e)
-
 -- it stands as it should: the line is sound, and has its key and its number
 module _ (key s : Text) (low most : ℕ) (at : At) (plain : plainBytes key ≡ true) (q n : ℕ) (e : straight key low most s (at .place) ≡ got q n) where
   abbrev st : Stood key s low most (at .place) q n
@@ -294,12 +191,12 @@ module _ (key s : Text) (low most : ℕ) (at : At) (plain : plainBytes key ≡ t
   number = take (st .end - st .value) (drop (st .value) s)
 
   number-length : length number ≡ st .end - st .value
-  number-length = part-length s (st .value) (st .end) (ordered .1) (ordered .2) (st .fed)
+  number-length = part-length s (st .value) (st .end) lineFeed (ordered .1) (ordered .2) (st .fed)
 
   number-decimal : decimal most number 0 ≡ got (length number) n
   number-decimal =
       let m : st .end ≡ st .value + length number = omega (arith, number-length, ordered) in
-      unshifted (st .value) _ _ _ (sym (decimal-part s (st .value) (st .end) (ordered .1) (ordered .2) (st .fed) most) ∙ st .numbered ∙ ap (λ i. got i n) m)
+      unshifted (st .value) _ _ _ (sym (decimal-part s (st .value) (st .end) lineFeed (ordered .1) (ordered .2) (st .fed) no-digit most) ∙ st .numbered ∙ ap (λ i. got i n) m)
 
   number-plain : plainBytes number ≡ true
   number-plain = decimal-plain most number 0 _ n number-decimal (ap plainBytes (drop-length number) ∙ plain-start [] 0)
@@ -328,7 +225,7 @@ module _ (key s : Text) (low most : ℕ) (at : At) (plain : plainBytes key ≡ t
   reads k =
       let m : b + (st .value - b) ≡ st .value = omega (arith, ordered) in
       let w : word key (take (st .end - b) (drop b s)) 0 ≡ got (st .value - b) tt =
-      unshifted b _ _ _ (sym (word-part s b (st .end) (omega (arith, ordered)) (ordered .2) (st .fed) key plain 0 (omega (arith, ordered))) ∙ ap (word key s) (add-zero b) ∙ st .keyed ∙ ap (λ i. got i tt) (sym m)) in
+      unshifted b _ _ _ (sym (word-part s b (st .end) lineFeed (omega (arith, ordered)) (ordered .2) (st .fed) key (plain-free key plain) 0 (omega (arith, ordered))) ∙ ap (word key s) (add-zero b) ∙ st .keyed ∙ ap (λ i. got i tt) (sym m)) in
       let t = key-right s key at (st .end) line-sound (st .value - b) w plain k in
       number-read s key at low most _ t _ _ refl n (ap (λ i. numberIn low most (take (st .end - i) (drop i s))) m ∙ number-within low most number _ n number-decimal refl (st .least))
       ∙ ap (λ i. after n (at .line + 1) (lines (drop i s))) (st .behind)
@@ -351,12 +248,12 @@ module _ (key s : Text) (low most : ℕ) (at : At) (plain : plainBytes key ≡ t
       let k : e - b ≡ length c = omega arith in
       let line : take (e - b) (drop b s) ≡ c = ap (λ i. take i (drop b s)) k ∙ sym (f .front) in
       let w : word key s b ≡ got (b + p) tt =
-      ap (word key s) (sym (add-zero b)) ∙ word-part s b e (omega arith) within fed key plain 0 (omega arith) ∙ ap (λ l. shifted b (word key l 0)) line ∙ ap (shifted b) found in
+      ap (word key s) (sym (add-zero b)) ∙ word-part s b e lineFeed (omega arith) within fed key (plain-free key plain) 0 (omega arith) ∙ ap (λ l. shifted b (word key l 0)) line ∙ ap (shifted b) found in
       let value : take (e - (b + p)) (drop (b + p) s) ≡ drop p c = sym (value-part s b e p (omega arith)) ∙ ap (drop p) line in
       let number = number-is low most (drop p c) n numbered in
       let m : (b + p) + length (drop p c) ≡ e = omega (arith, length-drop p c) in
       let d : decimal most s (b + p) ≡ got e n =
-      decimal-part s (b + p) e (omega arith) within fed most ∙ ap (λ l. shifted (b + p) (decimal most l 0)) value ∙ ap (shifted (b + p)) (number .0) ∙ ap (λ i. got i n) m in
+      decimal-part s (b + p) e lineFeed (omega arith) within fed no-digit most ∙ ap (λ l. shifted (b + p) (decimal most l 0)) value ∙ ap (shifted (b + p)) (number .0) ∙ ap (λ i. got i n) m in
       (e + 1, straight-stands key s low most b (b + p) w e n d fed (number .1) (omega (arith, sound-short c sounds)))
 
   pub stands : (v : Text) (line : ℕ) (rest : List Line) → readAt (keyed key) s at ≡ after v line rest → (n : ℕ) → numberIn low most v ≡ some n → StoodSo n

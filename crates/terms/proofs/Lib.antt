@@ -10,6 +10,7 @@ pub mod Moving
 pub mod Nesting
 pub mod Onward
 pub mod Open
+pub mod Parts
 pub mod ReadWithin
 pub mod Respect
 pub mod Series
