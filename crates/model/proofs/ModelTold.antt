@@ -17,11 +17,10 @@ use Rattle.code.specs.Within.{CodeWithin}
 use Rattle.code.proofs.Stacks.{false-true}
 use Rattle.model.specs.Accepted.{AcceptedMethod, AcceptedClass}
 use Rattle.model.specs.Bounds.{edition, mostClasses, mostMethods, mostParams, mostLines, allLines}
-use Rattle.model.specs.InOrder.{each}
 use Rattle.model.specs.Model.{Method, Class, Model}
 use Rattle.model.specs.ModelText.{Creation, SoFar, creationsOf, linesBegun, zeroIf, readMethod, readClass, readModel}
 use Rattle.model.proofs.CodeTold.{LineRead, brings-code, lines-accepted}
-use Rattle.model.proofs.Bringing.{Brings, brings-done, brings-then, brings-so, brings-number, Along, InTurn, brings-each, turn-each, turn-keeps, turn-back, turn-total}
+use Rattle.model.proofs.Bringing.{Brings, brings-done, brings-then, brings-so, brings-number, Along, brings-each, turn-each, turn-keeps, turn-back, turn-total}
 
 -- a range that may be narrowed to 0 is no wider
 zero-most : (b : Bool) (n x : ℕ) → x ≤ zeroIf b n → x ≤ n
@@ -110,103 +109,76 @@ module _ (last : ℕ) (F : ℕ × ℕ → Type 0) where
     pub news : Noted F (t .creations) → Every (λ c. Every (λ b. Every (NewHas F) (b .code)) (c .methods)) m
     pub before : Before last (t .creations)
 
-  module _ (classes : ℕ) (some-class : 0 < classes) where
-    -- a method of these numbers and lines
-    method-read : (attrs run j : ℕ) (so : SoFar) (params locals count : ℕ) (code : List Code) (t : SoFar)
-        → params ≤ zeroIf (eqb run 1 && eqb j 0) mostParams → (params ≤ locals) × (locals ≤ mostLocals)
-        → (1 ≤ count) × (count ≤ min mostLines (allLines - so .total)) → length code ≡ count
-        → InTurn (LineRead last (record { attrs = attrs; locals = locals }) classes count) 0 (linesBegun so count) code t
-        → MethodRead classes attrs run j so (record { params = params; locals = locals; code = code }) t
-    unfolding linesBegun
-    method-read attrs run j so params locals count code t p l n e r =
-        let lim : Limits = record { attrs = attrs; locals = locals } in
-        let begun = linesBegun so count in
-        let total : t .total ≡ so .total + count =
-        turn-keeps (LineRead last lim classes count) (λ s. s .total ≡ so .total + count) (λ i s c u o h. o .total ∙ h) 0 begun code t r refl in
-        record {
-          like = record {
-            params = zero-most (eqb run 1 && eqb j 0) mostParams params p;
-            first = λ u z. zero-only (eqb run 1 && eqb j 0) mostParams params (rw (eq-eqb run 1 u, eq-eqb j 0 z)) p;
-            locals = l;
-            lines = (omega arith, omega arith);
-            blocks = lines-accepted last lim classes count begun code t r refl e (n .0);
-            code = turn-back (LineRead last lim classes count) (λ _. Unit {0}) (CodeWithin lim classes) (λ i s c u o _. (tt, o .within)) 0 begun code t r tt .1;
-          };
-          total = omega arith;
-          most = omega arith;
-          news = turn-back (LineRead last lim classes count) (λ s. Noted F (s .creations)) (NewHas F) (line-news lim classes count) 0 begun code t r;
-          before =
-              turn-keeps (LineRead last lim classes count) (λ s. Before last (s .creations))
-              (λ i s c u o h. rw (o .creations) (before-more last (s .creations) _ h (before-line last (o .at) c (o .line)))) 0 begun code t r;
-        }
+  -- whatever method is read
+  brings-method : (classes : ℕ) → 0 < classes → (attrs run j : ℕ) (so : SoFar) → Brings last (Along (MethodRead classes attrs run j so)) (readMethod classes attrs run j so)
+  unfolding readMethod linesBegun
+  brings-method classes some-class attrs run j so =
+      brings-then last _ _ _ _ (brings-number last (bytes "method=") j j) (λ _ _.
+      brings-then last _ _ _ _ (brings-number last (bytes "params=") 0 (zeroIf (eqb run 1 && eqb j 0) mostParams)) (λ params p.
+      brings-then last _ _ _ _ (brings-number last (bytes "locals=") params mostLocals) (λ locals l.
+      brings-then last _ _ _ _ (brings-number last (bytes "lines=") 1 (min mostLines (allLines - so .total))) (λ count n.
+      let lim : Limits = record { attrs = attrs; locals = locals } in
+      let One = LineRead last lim classes count in
+      let begun = linesBegun so count in
+      brings-then last _ _ _ _ (brings-each last One _ (λ i s. brings-code last lim classes count i s some-class) count 0 begun) (λ code r.
+      let total : code .1 .total ≡ so .total + count = turn-keeps One (λ s. s .total ≡ so .total + count) (λ i s c u o h. o .total ∙ h) 0 begun (code .0) (code .1) (r .1) refl in
+      brings-done last _ _ (record {
+        like = record {
+          params = zero-most (eqb run 1 && eqb j 0) mostParams params (p .1);
+          first = λ u z. zero-only (eqb run 1 && eqb j 0) mostParams params (rw (eq-eqb run 1 u, eq-eqb j 0 z)) (p .1);
+          locals = l;
+          lines = (omega arith, omega arith);
+          blocks = lines-accepted last lim classes count begun (code .0) (code .1) (r .1) refl (r .0) (n .0);
+          code = turn-back One (λ _. Unit {0}) (CodeWithin lim classes) (λ i s c u o _. (tt, o .within)) 0 begun (code .0) (code .1) (r .1) tt .1;
+        };
+        total = omega arith;
+        most = omega arith;
+        news = turn-back One (λ s. Noted F (s .creations)) (NewHas F) (line-news lim classes count) 0 begun (code .0) (code .1) (r .1);
+        before =
+            turn-keeps One (λ s. Before last (s .creations))
+            (λ i s c u o h. rw (o .creations) (before-more last (s .creations) _ h (before-line last (o .at) c (o .line)))) 0 begun (code .0) (code .1) (r .1);
+      }))))))
 
-    -- whatever method is read
-    brings-method : (attrs run j : ℕ) (so : SoFar) → Brings last (Along (MethodRead classes attrs run j so)) (readMethod classes attrs run j so)
-    unfolding readMethod
-    brings-method attrs run j so =
-        brings-then last _ _ _ _ (brings-number last (bytes "method=") j j) (λ _ _.
-        brings-then last _ _ _ _ (brings-number last (bytes "params=") 0 (zeroIf (eqb run 1 && eqb j 0) mostParams)) (λ params p.
-        brings-then last _ _ _ _ (brings-number last (bytes "locals=") params mostLocals) (λ locals l.
-        brings-then last _ _ _ _ (brings-number last (bytes "lines=") 1 (min mostLines (allLines - so .total))) (λ count n.
-        brings-then last _ _ _ _
-        (brings-each last _ _ (λ i s. brings-code last (record { attrs = attrs; locals = locals }) classes count i s some-class) count 0 (linesBegun so count))
-        (λ code r. brings-done last _ _ (method-read attrs run j so params locals count (code .0) (code .1) (p .1) l n (r .0) (r .1)))))))
-
-    -- a class of these numbers and methods
-    class-read : (k : ℕ) (so : SoFar) (attrs given run count : ℕ) (methods : List Method) (t : SoFar)
-        → attrs ≤ mostAttributes → given ≤ zeroIf (eqb k 0) attrs → (1 - k ≤ run) × (run ≤ 1) → (run ≤ count) × (count ≤ mostMethods) → length methods ≡ count
-        → InTurn (MethodRead classes attrs run) 0 so methods t
-        → ClassRead classes k so (record { attrs = attrs; given = given; run = run; methods = methods }) t
-    class-read k so attrs given run count methods t a g u n e r =
-        record {
-          like = record {
-            attrs = a;
-            given = zero-most (eqb k 0) attrs given g;
-            run = u .1;
-            first = λ z. (zero-only (eqb k 0) attrs given (eq-eqb k 0 z) g, omega arith);
-            count = (omega arith, omega arith);
-            methods = turn-each (MethodRead classes attrs run) (AcceptedMethod classes attrs run) (λ j s b u o. o .like) 0 so methods t r;
-          };
-          total = turn-total (MethodRead classes attrs run) (λ s. s .total) (λ b. length (b .code)) (λ j s b u o. o .total) 0 so methods t r;
-          most = turn-keeps (MethodRead classes attrs run) (λ s. s .total ≤ allLines) (λ j s b u o _. o .most) 0 so methods t r;
-          news = turn-back (MethodRead classes attrs run) (λ s. Noted F (s .creations)) (λ b. Every (NewHas F) (b .code)) (λ j s b u o. o .news) 0 so methods t r;
-          before = turn-keeps (MethodRead classes attrs run) (λ s. Before last (s .creations)) (λ j s b u o. o .before) 0 so methods t r;
-        }
-
-    -- whatever class is read
-    brings-class : (k : ℕ) (so : SoFar) → Brings last (Along (ClassRead classes k so)) (readClass classes k so)
-    unfolding readClass
-    brings-class k so =
-        brings-then last _ _ _ _ (brings-number last (bytes "class=") k k) (λ _ _.
-        brings-then last _ _ _ _ (brings-number last (bytes "attrs=") 0 mostAttributes) (λ attrs a.
-        brings-then last _ _ _ _ (brings-number last (bytes "given=") 0 (zeroIf (eqb k 0) attrs)) (λ given g.
-        brings-then last _ _ _ _ (brings-number last (bytes "run=") (1 - k) 1) (λ run u.
-        brings-then last _ _ _ _ (brings-number last (bytes "methods=") run mostMethods) (λ count n.
-        brings-then last _ _ _ _ (brings-each last _ _ (λ j s. brings-method attrs run j s) count 0 so)
-        (λ methods r. brings-done last _ _ (class-read k so attrs given run count (methods .0) (methods .1) (a .1) (g .1) u n (r .0) (r .1))))))))
-
-  -- a model of these classes
-  model-read : (count : ℕ) (m : Model) (t : SoFar) → (1 ≤ count) × (count ≤ mostClasses) → length m ≡ count
-      → InTurn (ClassRead count) 0 nothingYet m t → ModelRead m t
-  unfolding Every
-  model-read count m t n e r =
-      let total : t .total ≡ 0 + totalOf (λ c. totalOf (λ b. length (b .code)) (c .methods)) m =
-      turn-total (ClassRead count) (λ s. s .total) _ (λ k s c u o. o .total) 0 nothingYet m t r in
-      let most : t .total ≤ allLines = turn-keeps (ClassRead count) (λ s. s .total ≤ allLines) (λ k s c u o. o .most) 0 nothingYet m t r (omega arith) in
-      record {
-        count = (omega arith, omega arith);
-        classes = rw e (turn-each (ClassRead count) (AcceptedClass count) (λ k s c u o. o .like) 0 nothingYet m t r);
-        lines = omega arith;
-        news = λ h. turn-back (ClassRead count) (λ s. Noted F (s .creations)) _ (λ k s c u o. o .news) 0 nothingYet m t r h .1;
-        before = turn-keeps (ClassRead count) (λ s. Before last (s .creations)) (λ k s c u o. o .before) 0 nothingYet m t r tt;
-      }
+  -- whatever class is read
+  brings-class : (classes : ℕ) → 0 < classes → (k : ℕ) (so : SoFar) → Brings last (Along (ClassRead classes k so)) (readClass classes k so)
+  unfolding readClass
+  brings-class classes some-class k so =
+      brings-then last _ _ _ _ (brings-number last (bytes "class=") k k) (λ _ _.
+      brings-then last _ _ _ _ (brings-number last (bytes "attrs=") 0 mostAttributes) (λ attrs a.
+      brings-then last _ _ _ _ (brings-number last (bytes "given=") 0 (zeroIf (eqb k 0) attrs)) (λ given g.
+      brings-then last _ _ _ _ (brings-number last (bytes "run=") (1 - k) 1) (λ run u.
+      brings-then last _ _ _ _ (brings-number last (bytes "methods=") run mostMethods) (λ count n.
+      let One = MethodRead classes attrs run in
+      brings-then last _ _ _ _ (brings-each last One _ (brings-method classes some-class attrs run) count 0 so) (λ methods r.
+      brings-done last _ _ (record {
+        like = record {
+          attrs = a .1;
+          given = zero-most (eqb k 0) attrs given (g .1);
+          run = u .1;
+          first = λ z. (zero-only (eqb k 0) attrs given (eq-eqb k 0 z) (g .1), omega arith);
+          count = (omega arith, omega arith);
+          methods = turn-each One (AcceptedMethod classes attrs run) (λ j s b u o. o .like) 0 so (methods .0) (methods .1) (r .1);
+        };
+        total = turn-total One (λ s. s .total) (λ b. length (b .code)) (λ j s b u o. o .total) 0 so (methods .0) (methods .1) (r .1);
+        most = turn-keeps One (λ s. s .total ≤ allLines) (λ j s b u o _. o .most) 0 so (methods .0) (methods .1) (r .1);
+        news = turn-back One (λ s. Noted F (s .creations)) (λ b. Every (NewHas F) (b .code)) (λ j s b u o. o .news) 0 so (methods .0) (methods .1) (r .1);
+        before = turn-keeps One (λ s. Before last (s .creations)) (λ j s b u o. o .before) 0 so (methods .0) (methods .1) (r .1);
+      })))))))
 
   -- the whole text
   pub brings-model : Brings last (Along ModelRead) readModel
-  unfolding readModel
+  unfolding readModel Every
   brings-model =
       brings-then last _ _ _ _ (brings-number last (bytes "creol=") edition edition) (λ _ _.
       brings-then last _ _ _ _ (brings-number last (bytes "classes=") 1 mostClasses) (λ count n.
-      brings-so last (Along (λ m t. (length m ≡ count) × InTurn (ClassRead count) 0 nothingYet m t)) (Along ModelRead) (each count 0 nothingYet (readClass count))
-      (brings-each last (ClassRead count) (readClass count) (brings-class count (n .0)) count 0 nothingYet)
-      (λ r h. model-read count (r .0) (r .1) n (h .0) (h .1))))
+      let One = ClassRead count in
+      brings-so last _ (Along ModelRead) _ (brings-each last One _ (brings-class count (n .0)) count 0 nothingYet) (λ m r.
+      let total = turn-total One (λ s. s .total) _ (λ k s c u o. o .total) 0 nothingYet (m .0) (m .1) (r .1) in
+      let most = turn-keeps One (λ s. s .total ≤ allLines) (λ k s c u o. o .most) 0 nothingYet (m .0) (m .1) (r .1) (omega arith) in
+      record {
+        count = (omega arith, omega arith);
+        classes = rw (r .0) (turn-each One (AcceptedClass count) (λ k s c u o. o .like) 0 nothingYet (m .0) (m .1) (r .1));
+        lines = omega arith;
+        news = λ h. turn-back One (λ s. Noted F (s .creations)) _ (λ k s c u o. o .news) 0 nothingYet (m .0) (m .1) (r .1) h .1;
+        before = turn-keeps One (λ s. Before last (s .creations)) (λ k s c u o. o .before) 0 nothingYet (m .0) (m .1) (r .1) tt;
+      })))
