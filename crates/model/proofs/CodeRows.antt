@@ -21,7 +21,7 @@ use Rattle.model.specs.Vocabulary.Readings.{soFar, LineLeft}
 use Rattle.model.specs.Vocabulary.Standing.{limitsOf, valueTaken, CodeIs}
 use Rattle.model.specs.Vocabulary.Table.{Table, Sized, put, rowAt, codeRow, Same}
 use Rattle.model.proofs.CodeValues.{Taking, taking}
-use Rattle.model.proofs.CreationRows.{creation-told, in-more}
+use Rattle.model.proofs.CountsOfNew.{creation-told, in-more}
 use Rattle.model.proofs.Framing.{same-put, news-kept}
 use Rattle.model.proofs.TableRows.{row-own}
 

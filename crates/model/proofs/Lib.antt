@@ -10,7 +10,6 @@ pub mod CodeRows
 pub mod CodeTold
 pub mod CodeValues
 pub mod CountsOfNew
-pub mod CreationRows
 pub mod Cutting
 pub mod Framing
 pub mod KeyLines
