@@ -40,9 +40,8 @@ use Rattle.model.specs.Vocabulary.Known.{modelOf, Known}
 use Rattle.model.specs.Vocabulary.Table.{Table, rowAt, codeRow, classesIn}
 use Rattle.model.proofs.AcceptedAt.{method-accepted, line-accepted, new-accepted}
 use Rattle.model.proofs.AcceptedJudged.{model-accepted}
-use Rattle.model.proofs.Lookup.{classes-at, method-at, line-at}
+use Rattle.model.proofs.Lookup.{classes-at, method-at, line-at, shape-at, method-shapes}
 use Rattle.model.proofs.TableRows.{item-at}
-use Rattle.model.proofs.LookupShapes.{shape-at, method-shapes}
 use Rattle.cells.specs.Standing.{shapesOf}
 use Rattle.rules.specs.Exec.{here, workedOut}
 use Rattle.rules.proofs.Executing.{item-inside}

@@ -15,7 +15,6 @@ pub mod Framing
 pub mod KeyLines
 pub mod Knowing
 pub mod Lookup
-pub mod LookupShapes
 pub mod Loops
 pub mod ModelTold
 pub mod NumberLines
