@@ -78,6 +78,7 @@ pub fn method(
         first: total,
     };
     let read = all_lines(text, table, shapes, at, head);
-    table::put_method(table, class.index, j, Row(params, locals, count, total));
+    let place = table::method_place(class.index, j);
+    table::put(table, place, Row(params, locals, count, total));
     read
 }

@@ -62,7 +62,7 @@ pub fn put(table: &mut [u16], r: usize, row: Row)
 }
 
 // The number of a method's row.
-fn method_place(class: u32, method: u32) -> usize
+pub fn method_place(class: u32, method: u32) -> usize
     requires { ⌜ class < 16 ⌝ }
     requires { ⌜ method < 8 ⌝ }
     ensures { λ r. ⌜ r ≡ Table.methodRow class method ⌝ }
@@ -78,17 +78,6 @@ pub fn method_row(table: &[u16], class: u32, method: u32) -> Row
     ensures { λ r. ⌜ r ≡ Table.rowAt (now (table .entry)) (Table.methodRow class method) ⌝ }
 {
     row(table, method_place(class, method))
-}
-
-// Four numbers in the place of a method's.
-pub fn put_method(table: &mut [u16], class: u32, method: u32, row: Row)
-    requires { ⌜ length (now table) ≡ Table.tableSize ⌝ }
-    requires { ⌜ class < 16 ⌝ }
-    requires { ⌜ method < 8 ⌝ }
-    requires { ⌜ Table.Small row ⌝ }
-    ensures { λ _. ⌜ now (table .exit) ≡ Table.put (now (table .entry)) (Table.methodRow class method) row ⌝ }
-{
-    put(table, method_place(class, method), row);
 }
 
 // A code line's row, by the number of the line among all code lines.

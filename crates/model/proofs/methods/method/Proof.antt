@@ -53,27 +53,28 @@ all-lines-requires c κs =
     let n = told-got _ _ _ _ (r .before .before .number-line4 .ensures) _ _ (r .read4 .given .1) .3 in
     (b .pre .0, (after-lines r .placed, (omega arith, omega arith, n .1, omega (arith, n .2, r .before .before .before .most-lines .ensures))))
 
-put-method-requires : tie.Need-put-method-requires
-put-method-requires c κs =
-    let p = c .before .before .before .before .before .before .before .before .before .before .before .before .before .before .before .before .before .before .before .before .before .before .before .before .before .before .before .before .before .before .before .before .before .pre in
-    let r = c .before .before .before .before .before .before .before .before .before in
+put-requires : tie.Need-put-requires
+put-requires c κs =
+    let p = c .before .before .before .before .before .before .before .before .before .before .before .before .before .before .before .before .before .before .before .before .before .before .before .before .before .before .before .before .before .before .before .before .before .before .pre in
+    let r = c .before .before .before .before .before .before .before .before .before .before in
     let l = r .before .before .before .before .before .before in
     let x = l .before .before .before .before .before in
     let count = told-got _ _ _ _ (r .before .before .number-line4 .ensures) _ _ (r .read4 .given .1) .3 .2 in
     let locals = told-got _ _ _ _ (l .before .before .number-line3 .ensures) _ _ (l .read3 .given .1) .3 .2 in
     let params = told-got _ _ _ _ (x .before .before .number-line2 .ensures) _ _ (x .read2 .given .1) .3 .2 in
     let most = most-if _ _ _ (x .before .before .before .most-params .ensures) in
-    (search needs, (omega (arith, p .1 .1), (omega (arith, p .1 .1), (omega (arith, params, most), omega (arith, locals), omega (arith, count, r .before .before .before .most-lines .ensures), omega (arith, p .1 .1)))))
+    (search needs, (omega (arith, p .1 .1, c .before .method-place .ensures), (omega (arith, params, most), omega (arith, locals), omega (arith, count, r .before .before .before .most-lines .ensures), omega (arith, p .1 .1))))
 
 returns-5 : tie.Need-returns-5
 unfolding linesBegun
 returns-5 c =
-    let r = c .before .before .before .before .before .before .before .before .before .before .before .before in
+    let r = c .before .before .before .before .before .before .before .before .before .before .before .before .before in
     let b = r .before .before .before .before .before .before .before .before .before .before .before .before .before .before .before .before .before .before .before .before .before .before .before .before in
     let a = b .args in
-    let p = b .pre .1 .1 in
-    tells-made _ _ (after-lines r) _ _ _ (c .before .before .before .before .before .before .before .before .all-lines .ensures)
-    (λ code n l. method-put _ _ _ _ _ (search needs) (a .class) (a .j) (a .total) _ _ _ n (code .0) (code .1) (omega arith) (omega arith) _ (c .before .before .put-method .ensures) l)
+    let p = b .pre in
+    let e = c .before .before .before .before .before .before .before .before .table .given in
+    tells-made _ _ (after-lines r) _ _ _ (c .before .before .before .before .before .before .before .before .before .all-lines .ensures)
+    (λ code n l. method-put _ _ _ _ _ (search needs) (a .class) (a .j) (a .total) _ _ _ n (code .0) (code .1) (omega arith) (omega arith) _ (rw (c .before .before .before .before .method-place .ensures) at (c .before .before .put .ensures)) l)
 
 pub method-spec : {M : Type 1} → statement M
 unfolding plainByte plainBytes
@@ -103,7 +104,8 @@ method-spec =
     (λ c. search needs)
     (λ c. number-stops _ (after-locals (c .before .before .before .before .before .before)) (ap (numberLine (bytes "lines=") 1) (c .before .before .before .most-lines .ensures)) _ _ (c .before .before .number-line4 .ensures) _ (c .enum-told4 .given .1))
     all-lines-requires
-    put-method-requires
+    (λ c κs. let p = c .before .before .before .before .before .before .before .before .before .before .before .before .before .before .before .before .before .before .before .before .before .before .before .before .before .before .before .before .before .before .before .before .pre .1 .1 in (omega arith, omega arith))
+    put-requires
     (λ c. search needs)
     (λ c. search needs)
     returns-5)
