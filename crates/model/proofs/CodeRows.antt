@@ -61,7 +61,7 @@ module _ (s : Text) (t : Table) (x : List ℕ) (sized : Sized t x) (m : MethodHe
   )
 
   news : creationsIn t line ++ creationsOf at (is .code) ≡ creationsIn u (line + 1)
-  news = rw (in-more u line, line-row, news-kept rows-same line (omega arith), is .new, creation-told at (is .code) (is .class)) refl
+  news = rw (in-more u line, line-row, news-kept rows-same 0 line (omega arith), is .new, creation-told at (is .code) (is .class)) refl
 
   abbrev pub carried : SoFar
   carried = record { total = total; creations = creationsIn t line ++ creationsOf at (is .code); blocks = is .after }

@@ -27,14 +27,13 @@ use Rattle.code.specs.Vocabulary.Readers.{statementRead}
 use Rattle.code.proofs.NewCounts.{new-class, new-count}
 use Rattle.code.proofs.OpenBlocks.{packed-none, packed-deep}
 use Rattle.code.proofs.Told.{Told, told-bad, told-got}
-use Rattle.model.specs.declared.CodeFound.{CodeFound}
 use Rattle.model.specs.declared.CodeFound.the-variants as Found
 use Rattle.model.specs.declared.MethodHead.{MethodHead}
 use Rattle.model.specs.declared.Stated.{Stated}
 use Rattle.model.specs.InOrder.{Taken, wrong, right}
-use Rattle.model.specs.ModelText.{Creation, SoFar, creationsOf, mayStand, standing}
+use Rattle.model.specs.ModelText.{SoFar, creationsOf, mayStand, standing}
 use Rattle.model.specs.Vocabulary.Creations.{newNumber}
-use Rattle.model.specs.Vocabulary.Standing.{stood, limitsOf, valueTaken, CodeIs, CodeSaid}
+use Rattle.model.specs.Vocabulary.Standing.{stood, limitsOf, valueTaken, CodeSaid}
 
 -- whether a line may stand where it stands, by the tests that the code makes
 module _ (c : Code) (bs : List Block) where
@@ -132,14 +131,3 @@ module _ (cells : Cells) (a : Around) (m : MethodHead) (l : a .limits ≡ limits
         new = n ∙ ap newNumber (told .creates);
         class = class-below some-class few;
       }
-
--- what the code gives of a value, by its case
-module _ (value : Text) (m : MethodHead) (last : Bool) (bs : List Block) (r : CodeFound) (s : CodeSaid value m last bs r) where
-  pub said-refused : (n : ℕ) → r ≡ Found.Refused n → (at total : ℕ) (cs : List Creation)
-      → valueTaken (limitsOf m) (m .classes) last (record { total = total; creations = cs; blocks = bs }) at value ≡ wrong n
-  unfolding CodeSaid
-  said-refused n e = subst (CodeSaid value m last bs) e s
-
-  pub said-is : (d : Stated) → r ≡ Found.Is d → CodeIs value m last bs d
-  unfolding CodeSaid
-  said-is d e = subst (CodeSaid value m last bs) e s

@@ -119,18 +119,13 @@ creation-told at c = go (newOf c)
     go none h = unfold creationTold newNumber in refl
     go (some n) h = unfold newNumber in number-told at (n .0) (n .1) (h n refl)
 
--- what a row tells
-rowTold : Table → ℕ → List Creation
-rowTold t i = let r = rowAt t (codeRow i) in creationTold (r .2) (r .3)
-
 -- one row more
-from-more : (t : Table) (i n : ℕ) → creationsFrom t i (suc n) ≡ creationsFrom t i n ++ rowTold t (i + n)
-unfolding creationsFrom rowTold
+from-more : (t : Table) (i n : ℕ) → creationsFrom t i (suc n) ≡ creationsFrom t i n ++ (let r = rowAt t (codeRow (i + n)) in creationTold (r .2) (r .3))
+unfolding creationsFrom
 from-more t i zero = rw (append-nil, add-zero) refl
 from-more t i (suc n) =
     let e : i + suc n ≡ suc i + n = omega arith in
     rw (e, append-assoc, ← from-more t (suc i) n) refl
 
 pub in-more : (t : Table) (n : ℕ) → creationsIn t (n + 1) ≡ creationsIn t n ++ (let r = rowAt t (codeRow n) in creationTold (r .2) (r .3))
-unfolding rowTold
 in-more t n = rw (add-one, from-more, zero-add) refl

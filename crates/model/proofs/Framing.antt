@@ -9,7 +9,7 @@ use Rattle.terms.specs.declared.Limits.{Limits}
 use Rattle.code.specs.Statements.{Code}
 use Rattle.model.specs.declared.Row.{Row}
 use Rattle.model.specs.Vocabulary.Belonging.{CodeTold, ShapeTold, LineTold, MethodTold, ClassTold}
-use Rattle.model.specs.Vocabulary.Creations.{creationsFrom, creationsIn}
+use Rattle.model.specs.Vocabulary.Creations.{creationsFrom}
 use Rattle.model.specs.Model.{Method, Class}
 use Rattle.model.specs.Vocabulary.Table.{Table, put, classRow, methodRow, codeRow, Same}
 use Rattle.model.proofs.TableRows.{row-other, each-keep}
@@ -60,11 +60,7 @@ module _ {t u : Table} {x y : List ℕ} {k m l : ℕ} (a : Same t x u y k m l) w
         (told .0, told .1, told .2, told .3, told .4, each-keep _ _ 0 (o .methods) (λ j b _ n. method-kept (o .attrs) class j b (omega arith)) (told .5))
 
 -- the creations of the same code rows
-module _ {t u : Table} {x y : List ℕ} {k m l : ℕ} (a : Same t x u y k m l) where
-  rest-kept : (i n : ℕ) → i + n ≤ l → creationsFrom u i n ≡ creationsFrom t i n
-  unfolding creationsFrom
-  rest-kept i zero h = refl
-  rest-kept i (suc n) h = rw (a .line i (omega arith), rest-kept (suc i) n (omega arith)) refl
-
-  pub news-kept : (n : ℕ) → n ≤ l → creationsIn u n ≡ creationsIn t n
-  news-kept n h = rest-kept 0 n (omega arith)
+pub news-kept : {t u : Table} {x y : List ℕ} {k m l : ℕ} → Same t x u y k m l → (i n : ℕ) → i + n ≤ l → creationsFrom u i n ≡ creationsFrom t i n
+unfolding creationsFrom
+news-kept a i zero h = refl
+news-kept a i (suc n) h = rw (a .line i (omega arith), news-kept a (suc i) n (omega arith)) refl

@@ -34,11 +34,6 @@ module _ {A : Type 0} (s : Text) (P : A → ℕ → Type 0) (r : Read) (x : Line
   unfolding Tells
   told-got n p e = subst (λ q. Tells s P q x) e t
 
--- a refusal is passed on
-pub tells-failed : {B : Type 0} (s : Text) (Q : B → ℕ → Type 0) (r : Read) (y : LinesRead B) (v : Verdict) → r ≡ Read.Failed v → y ≡ failed v → Tells s Q r y
-unfolding Tells
-tells-failed s Q r y v e f = subst (λ q. Tells s Q q y) (sym e) f
-
 -- where a chain of readings has come: what is left to read of the whole, and from where
 pub record Comes {B : Type 0} (s : Text) (y : LinesRead B) (rd : Reader B) (p : At) : Type 0 where
   pub left : y ≡ readAt rd s p
@@ -52,7 +47,8 @@ module _ {B : Type 0} {s : Text} {y : LinesRead B} {rd rd' : Reader ℕ} {p : At
   module _ (low high : ℕ) {r : Read} (t : Tells s (InRange low high) r (readAt rd s p)) where
     -- it is refused
     pub number-stops : (Q : B → ℕ → Type 0) {v : Verdict} → r ≡ Read.Failed v → Tells s Q r y
-    number-stops Q f = tells-failed s Q r y _ f (here ∙ then-failed rd k _ _ _ (told-failed s _ r _ t _ f))
+    unfolding Tells
+    number-stops Q f = subst (λ q. Tells s Q q y) (sym f) (here ∙ then-failed rd k _ _ _ (told-failed s _ r _ t _ f))
 
     -- it is passed
     pub number-passed : {n : ℕ} {q : At} → r ≡ Read.Got n q → Comes s y (k n) q

@@ -24,7 +24,7 @@ pub left-put : {A B : Type 0} {s : Text} {t u v : Table} {x y : List ℕ} {P : A
     → (w : Table) → w ≡ v → Left s t x w y (Q w) i j total (b, so) n
 left-put {s = s} {t} {v = v} {x} {y} {i = i} {j} {total} {n} {so = so} l same f g Q b told w e =
     subst (λ w. Left s t x w y (Q w) i j total (b, so) n) (sym e) (record {
-      so = l .so ∙ ap (λ cs. record { total = n; creations = cs; blocks = [] }) (sym (news-kept same n (l .most)));
+      so = l .so ∙ ap (λ cs. record { total = n; creations = cs; blocks = [] }) (sym (news-kept same 0 n (omega (arith, l .most))));
       more = l .more;
       most = l .most;
       kept = same-then (l .kept) same f (omega arith) g (omega arith) (omega arith) (omega (arith, l .more, l .most));

@@ -1,6 +1,6 @@
 -- `model::code_lines::code_line` meets its contract. Assumes nothing.
 use Prim.Native.Nat.{_+_, _-_, _≤_, _<_}
-use mathlib.Core.Path.{_≡_, refl}
+use mathlib.Core.Path.{_≡_, refl, subst}
 use native.Mathlib.Omega.{arith}
 use denote.Ref.{now}
 use lib.ListN.{length, drop, length-take, length-drop}
@@ -8,8 +8,8 @@ use Rattle.model.specs.InOrder.{right}
 use Rattle.model.specs.ModelText.{codeLine}
 use Rattle.model.specs.Lines.{plainByte, plainBytes}
 use Rattle.model.specs.Vocabulary.Readings.{Tells}
+use Rattle.model.specs.Vocabulary.Standing.{CodeSaid}
 use Rattle.model.proofs.CodeRows.{line-taken, line-left}
-use Rattle.model.proofs.CodeValues.{said-refused, said-is}
 use Rattle.model.proofs.KeyLines.{value-failed, value-refused, value-read, value-inside, value-placed}
 use borrow.Author.Needs.{needs}
 use Rattle.model.proofs.code_lines.code_line.Statement.{statement}
@@ -65,22 +65,22 @@ unfolding Tells codeLine
 returns c = λ total bs e. value-failed _ _ _ _ _ (c .before .before .before .key-line .ensures) _ (c .before .verdict .given .1)
 
 returns-2 : tie.Need-returns-2
-unfolding Tells codeLine
+unfolding Tells codeLine CodeSaid
 returns-2 c = λ total bs e.
     let k = c .before .before .before .before .before .before .before in
     let a = k .before .before .before .before .before .before .before .args in
     value-refused _ _ _ _ _ (k .before .before .key-line .ensures) _ _ (k .place .given .1) _
-    (said-refused _ _ _ bs _ (c .before .before .before .code-value .ensures bs e) _ (c .before .number .given .1) (a .at .line) total _)
+    (subst (CodeSaid _ _ _ bs) (c .before .number .given .1) (c .before .before .before .code-value .ensures bs e) (a .at .line) total _)
 
 returns-3 : tie.Need-returns-3
-unfolding Tells codeLine
+unfolding Tells codeLine CodeSaid
 returns-3 c = λ total bs e.
     let k = c .before .before .before .before .before .before .before .before .before .before .before .before .before in
     let b = k .before .before .before .before .before .before .before in
     let a = b .args in
     let key = k .before .before .key-line .ensures in
     let h = inside k in
-    let is = said-is _ _ _ bs _ (c .before .before .before .before .before .before .before .before .before .code-value .ensures bs e) _ (c .before .before .before .before .before .before .before .stated .given .1) in
+    let is = subst (CodeSaid _ _ _ bs) (c .before .before .before .before .before .before .before .stated .given .1) (c .before .before .before .before .before .before .before .before .before .code-value .ensures bs e) in
     let room : a .method .first + a .i < 512 = omega arith in
     let to : k .place .given .0 .1 .0 ≤ length (now (a .text)) = omega arith in (
       _,
