@@ -3,7 +3,6 @@ use crate::lines;
 use terms::ReadNumber;
 use terms::ReadWord;
 use terms::leaves;
-ghost use mathlib.Core.Bool.{true};
 ghost use mathlib.Core.Path.{_≡_};
 ghost use Prim.Native.Nat.{_≤_};
 ghost use lib.ListN.{length};
@@ -14,7 +13,6 @@ ghost use Rattle.model.specs.Vocabulary.NumberLines as NumberLines;
 // A line with a number in its range, read as it should stand: its key, a decimal, and the LF behind it.
 pub fn straight(text: &[u8], at: usize, key: &[u8], lowest: u32, highest: u32) -> ReadNumber
     requires { ⌜ (at ≤ length (now text)) × (length (now text) ≤ Lines.longestText) ⌝ }
-    requires { ⌜ Lines.plainBytes (now key) ≡ true ⌝ }
     ensures { λ r. ⌜ r ≡ Answers.asNumber (NumberLines.straight (now (key .entry)) lowest highest (now (text .entry)) at) ⌝ }
 {
     match leaves::word(key, text, at) {

@@ -5,7 +5,6 @@ use crate::LineFound;
 use crate::lines;
 use crate::numbers;
 use terms::ReadNumber;
-ghost use mathlib.Core.Bool.{true};
 ghost use mathlib.Core.Path.{_≡_};
 ghost use Prim.Native.Nat.{_≤_};
 ghost use lib.ListN.{length};
@@ -46,7 +45,6 @@ pub fn line_at(text: &[u8], at: usize) -> LineFound
 // The number of the line that begins where the reader stands, if it stands as it should: its key, a decimal in its range, and the LF.
 fn number<'a, 'b>(reader: Reader<'a>, key: &'b [u8], lowest: u32, highest: u32) -> ReadNumber
     requires { ⌜ (reader .at ≤ length (now (reader .text))) × (length (now (reader .text)) ≤ Lines.longestText) ⌝ }
-    requires { ⌜ Lines.plainBytes (now key) ≡ true ⌝ }
     ensures { λ r. ⌜ r ≡ Answers.asNumber (NumberLines.straight (now (key .entry)) lowest highest (now (reader .entry .text)) (reader .entry .at)) ⌝ }
 {
     numbers::straight(reader.text, reader.at, key, lowest, highest)
@@ -55,7 +53,6 @@ fn number<'a, 'b>(reader: Reader<'a>, key: &'b [u8], lowest: u32, highest: u32) 
 // The same of the line that begins at a place of a text.
 pub fn number_at(text: &[u8], at: usize, key: &[u8], lowest: u32, highest: u32) -> ReadNumber
     requires { ⌜ (at ≤ length (now text)) × (length (now text) ≤ Lines.longestText) ⌝ }
-    requires { ⌜ Lines.plainBytes (now key) ≡ true ⌝ }
     ensures { λ r. ⌜ r ≡ Answers.asNumber (NumberLines.straight (now (key .entry)) lowest highest (now (text .entry)) at) ⌝ }
 {
     number(reader_at(text, at), key, lowest, highest)

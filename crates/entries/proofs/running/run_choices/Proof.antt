@@ -34,9 +34,9 @@ use prog.Routine.{Routine}
 use prog.Wp.{Heap, Out, Env, afterSeq, afterBlock, afterTurn, Wp, atReturn, WpFn, Tables}
 use ghost.Atoms.{Atoms}
 use contract.Lifetimes.{Lfts, Shares}
-use contract.Monad.{Fun, fact, factI}
+use contract.Monad.{Fun, fact}
 use contract.Running.{givenOf, tables, tablesOf}
-use types.Kit.{Goal, Step, Given, Item, ‵, raw, _⊛_, some, given, later, mean, ⋆, Sq, runs, anyQ, atRet, _$_, _∵_, !, qed, by, move, keep, drop, use0, use1, use2, use3, split, split3, join, group, pick, learn, rewrite, fsplit, fsplit3, fjoin, feqL, feqI, suffices, check, show, await, updating, now as at-once, done}
+use types.Kit.{Given, Item, ‵, raw, _⊛_, some, given, later, mean, ⋆, Sq, runs, anyQ, atRet, _$_, _∵_, !, qed, by, move, keep, drop, use1, use2, use3, split, split3, join, group, pick, learn, rewrite, fsplit, fsplit3, fjoin, feqL, feqI, suffices, check, show, await, updating, now as at-once, done}
 use types.Part.{agg, whole, sub, look-in}
 use types.Run.{look, look-raw, init, store, forget, stop, hop, fld, from, load, addr, lit, unit-lit, of-opd, and-then, no-more, bin, assigns, assigns-last, land, stays, leaves-loop, first, blocks, Below, again, loops, returns, exec, enter, alloc1, alloc0, params1, pass1, pass0, free1, free0}
 use types.Share.{arr-parts}
@@ -70,6 +70,7 @@ use Rattle.rules.proofs.Choice as T
 use Rattle.rules.proofs.Choice.Laws as T′
 use Rattle.entries.proofs.Again.{LentAgain, lends-again, comes-back}
 use Rattle.entries.proofs.RunOnward.{ran-none}
+use Rattle.entries.proofs.Walking.{told as holding}
 use Rattle.entries.proofs.running.perform as perform
 use Rattle.entries.proofs.running.perform.Symbol as perform-def
 use Rattle.entries.proofs.running.perform.Symbol.{name as #perform}
@@ -88,10 +89,6 @@ stayed = (stay-dropped _ yes, (stay-dropped _ yes, (stay-dropped _ yes, (stay-sl
 -- the contract that the proof cites
 abbrev Perform : {M : Type 1} (𝓤 : URA M) (H : Heap 𝓤) (A : Atoms 𝓤) (mem : Memory → SProp 𝓤) (run : Routine → Fun 𝓤) → Contract 𝓤
 Perform 𝓤 H A mem run = tripleOf 𝓤 H A perform.signature (perform.spec 𝓤 H A mem run)
-
--- a fact that holds is put into the context
-holding : {M : Type 1} {𝓤 : URA M} {H : Heap 𝓤} {A : Atoms 𝓤} {K : Type 0} {W : Given 𝓤 H A} {Γ : List (Item 𝓤)} {G : Goal 𝓤 H} {φ : Type 0} → φ → Step K W (raw (fact 𝓤 φ) ∷ Γ) G Γ G
-holding {𝓤 = 𝓤} {W = W} {φ = φ} x = use0 W (raw (fact 𝓤 φ)) (factI 𝓤 φ (emp 𝓤) x)
 
 -- a slice's MIR type, its machine value, and what it owns there: a shared one of any type, and one of i32 that is lent
 abbrev shared : ℕ → RattleType → Ty
@@ -187,7 +184,7 @@ module _ {M : Type 1} (𝓤 : URA M) (H : Heap 𝓤) (A : Atoms 𝓤) (W : Given
         move ! (11 ∷ 0 ∷ []) $ fjoin ! $ move ! (10 ∷ 0 ∷ []) $ fjoin ! $ move ! (1 ∷ 0 ∷ []) $ fjoin ! $ move ! (2 ∷ 0 ∷ []) $ fjoin ! $ move ! (3 ∷ 0 ∷ []) $ fjoin ! $
         -- [what the arguments own; shapes; table; text; the three tokens; ν's; μ's]
         nothing ! $ move ! (5 ∷ []) $ split3 ! $ move ! (0 ∷ 1 ∷ 2 ∷ 8 ∷ 9 ∷ 3 ∷ []) $ group ! 6 $ join ! $
-        holding (subst (s .place <_) (sym (s .both)) less) $ holding (s .ran .configuration) $ holding known $ group ! 3 $ move ! (1 ∷ 0 ∷ []) $ join ! $ move ! (0 ∷ 3 ∷ 2 ∷ 1 ∷ []) $ done !
+        holding ! (subst (s .place <_) (sym (s .both)) less) $ holding ! (s .ran .configuration) $ holding ! known $ group ! 3 $ move ! (1 ∷ 0 ∷ []) $ join ! $ move ! (0 ∷ 3 ∷ 2 ∷ 1 ∷ []) $ done !
 
     -- what is known of what it returns and of the lists l that it leaves; and what the turn has then
     abbrev Ensured : Val → Cells × List ℤ → Type 0
@@ -220,7 +217,7 @@ module _ {M : Type 1} (𝓤 : URA M) (H : Heap 𝓤) (A : Atoms 𝓤) (W : Given
       rewrite ! 5 (λ (n : ℕ). ‵ (MutSlice (named 5) κ₅ i32 .own (at-last answers (s .answers)) (sliceVal (answers .ptr) n ∷ []))) (s .both ∙ sym fit) refl $
       nothing ! $ move ! (6 ∷ 0 ∷ []) $ fjoin ! $ nothing ! $ fjoin ! $ move ! (5 ∷ 0 ∷ []) $ fjoin ! $ nothing ! $ fjoin ! $ nothing ! $ fjoin ! $ nothing ! $ fjoin ! $
       feqI ! (List Val) (vunit ∷ []) (vunit ∷ []) refl $ move ! (1 ∷ 0 ∷ []) $ join ! $ nothing ! $ move ! (2 ∷ []) $ split3 ! $ move ! (0 ∷ 1 ∷ 2 ∷ 5 ∷ 6 ∷ 7 ∷ 3 ∷ []) $ group ! 7 $ join ! $
-      holding (finished s over .1) $ holding (finished s over .0) $ move ! (2 ∷ 0 ∷ 1 ∷ []) $ done !
+      holding ! (finished s over .1) $ holding ! (finished s over .0) $ move ! (2 ∷ 0 ∷ 1 ∷ []) $ done !
 
   module _ (𝓣 : Tables 𝓤 H) (performs : Triple 𝓤 (𝓣 .C #perform) (Perform 𝓤 H A mem run)) (are : Are Types (Ises Types) a at) (known : Known (text .now) (table .now) (shapes .now)) (fit : length (answers .now) ≡ length (choices .now)) where
     module _ (l₀ l₁ l₂ l₃ l₄ l₅ l₆ l₇ l₈ l₉ l₁₀ l₁₁ l₁₂ l₁₃ l₁₄ l₁₅ l₁₆ : ℕ) where

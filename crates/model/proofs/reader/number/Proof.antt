@@ -40,17 +40,16 @@ use denote.Triple.Call.{calls-at}
 use denote.Triple.Entry.{Args, Vals, alive, onEntry}
 use denote.Triple.Spec.{Meets, tripleOf}
 use denote.Triple.Table.{entered, cited}
-use denote.Triple.Walked.{says, Stays, stay-none, stay-none-slice, walkOf, goes-none, goes-none-slice, Walks, ends-at, walked, walk-meets}
+use denote.Triple.Walked.{says, needs, Stays, stay-none, stay-none-slice, walkOf, goes-none, goes-none-slice, Walks, ends-at, walked, walk-meets}
 use denote.Exit.{yes}
 use denote.Triple.Clauses.{ensured, lasts}
 use Rattle.terms.specs.Vocabulary.Answers.{asNumber}
 use Rattle.terms.specs.declared.ReadNumber.{ReadNumber}
 use Rattle.terms.proofs.ReadNumber as S
 use Rattle.terms.proofs.ReadNumber.Laws as S′
-use Rattle.model.specs.Lines.{longestText, plainBytes}
+use Rattle.model.specs.Lines.{longestText}
 use Rattle.model.specs.Vocabulary.NumberLines as NumberLines
 use Rattle.model.specs.declared.reader.Reader.{Reader}
-use Rattle.model.proofs.ReaderWalks.{needs-both, says-both}
 use Rattle.model.proofs.reader.Reader as T
 use Rattle.model.proofs.reader.Reader.Laws as T′
 use Rattle.model.proofs.numbers.straight as straight
@@ -128,9 +127,9 @@ module _ {M : Type 1} (𝓤 : URA M) (H : Heap 𝓤) (A : Atoms 𝓤) (W : Given
       suffices ! _ (ends-at 𝓤 H A number.ended stayed (number.clauses 𝓤 H A mem run) W ((κs, qs, tt, a, vals), tt) u r (tt, (tt, (tt, (tt, tt)))) (tt, (tt, (tt, (tt, tt))))) $ says ! e $
       move ! (1 ∷ []) $ frame ! $ move ! (1 ∷ []) $ frame ! $ done !
 
-  module _ (within : (d .at ≤ length (now (d .text))) × (length (now (d .text)) ≤ longestText)) (keyed : plainBytes (now key) ≡ true) where
+  module _ (within : (d .at ≤ length (now (d .text))) × (length (now (d .text)) ≤ longestText)) where
     asked : ent 𝓤 (onEntry 𝓤 H A straight.signature κs qs passed values) (Straight 𝓤 H A mem run .pre to)
-    asked = qed W (tokens ∷ ‵ (owns (typesAt (straight.signature .params) κs) passed values) ∷ []) ∵ says-both ! within keyed $ frame ! $ done !
+    asked = qed W (tokens ∷ ‵ (owns (typesAt (straight.signature .params) κs) passed values) ∷ []) ∵ says ! within $ frame ! $ done !
 
     -- what the parameters own gives what the callee asks, and is kept
     apart : ent 𝓤 (onEntry 𝓤 H A number.signature κs qs a vals) (sep 𝓤 (Straight 𝓤 H A mem run .pre to) (sem 𝓤 H A Own))
@@ -172,8 +171,8 @@ module _ {M : Type 1} (𝓤 : URA M) (H : Heap 𝓤) (A : Atoms 𝓤) (W : Given
   number-walks C Λ fm known = walked 𝓤 H A number.ended stayed (number.clauses 𝓤 H A mem run) (WpFn 𝓤 H C Λ code.function)
       (λ κs. (LL.vals (D κs) (L κs), (slice-vals, (uint-vals w32, (uint-vals w32, tt)))))
       (λ κs. (LL.tells (D κs) (L κs), (shr-slice-tells (named 1) (κs .1 .0) u8, (uint-tells w32, (uint-tells w32, tt)))))
-      (λ κs qs bounds a g are. needs-both 𝓤 ((a .0 .at ≤ length (now (a .0 .text))) × (length (now (a .0 .text)) ≤ longestText)) (plainBytes (now (a .1 .0)) ≡ true) _ (λ within keyed.
-      walk 𝓤 H A W mem run κs qs (a .0) (a .1 .0) (a .1 .1 .0) (a .1 .1 .1 .0) within keyed C Λ fm known are))
+      (λ κs qs bounds a g are. needs 𝓤 ((a .0 .at ≤ length (now (a .0 .text))) × (length (now (a .0 .text)) ≤ longestText)) _ (λ within.
+      walk 𝓤 H A W mem run κs qs (a .0) (a .1 .0) (a .1 .1 .0) (a .1 .1 .1 .0) within C Λ fm known are))
 
 number-meets : {M : Type 1} (𝓤 : URA M) (H : Heap 𝓤) (A : Atoms 𝓤) (W : Given 𝓤 H A) (mem : Memory → SProp 𝓤) (run : Routine → Fun 𝓤) (𝓣 : Tables 𝓤 H)
     → Triple 𝓤 (𝓣 .C #model·numbers·straight) (Straight 𝓤 H A mem run)

@@ -38,17 +38,17 @@ use denote.Triple.Call.{calls-at}
 use denote.Triple.Entry.{Args, Vals, onEntry}
 use denote.Triple.Spec.{Meets, tripleOf}
 use denote.Triple.Table.{entered, cited}
-use denote.Triple.Walked.{says, Stays, stay-none, stay-none-slice, walkOf, goes-none, goes-none-slice, Walks, ends-at, walked, walk-meets}
+use denote.Triple.Walked.{says, needs, Stays, stay-none, stay-none-slice, walkOf, goes-none, goes-none-slice, Walks, ends-at, walked, walk-meets}
 use denote.Exit.{yes}
 use denote.Triple.Clauses.{ensured, lasts}
 use Rattle.terms.specs.Vocabulary.Answers.{asNumber}
 use Rattle.terms.specs.declared.ReadNumber.{ReadNumber}
 use Rattle.terms.proofs.ReadNumber as S
 use Rattle.terms.proofs.ReadNumber.Laws as S′
-use Rattle.model.specs.Lines.{longestText, plainBytes}
+use Rattle.model.specs.Lines.{longestText}
 use Rattle.model.specs.Vocabulary.NumberLines.{straight}
 use Rattle.model.specs.declared.reader.Reader.{Reader}
-use Rattle.model.proofs.ReaderWalks.{needs-both, says-both, of-made}
+use Rattle.model.proofs.ReaderWalks.{of-made}
 use Rattle.model.proofs.reader.Reader as T
 use Rattle.model.proofs.reader.Reader.Laws as T′
 use Rattle.model.proofs.reader.reader_at as reader-at
@@ -153,13 +153,13 @@ module _ {M : Type 1} (𝓤 : URA M) (H : Heap 𝓤) (A : Atoms 𝓤) (W : Given
   abbrev to-number : Reader → Val → Number 𝓤 H A mem run .Ghost
   to-number r u = ((κs, qs, tt, given-number r, (u ∷ [], (slice-vals key, (vint w32 lowest ∷ [], (vint w32 highest ∷ [], tt))))), tt)
 
-  goes-number : (r : Reader) (u : Val) → Within (r .text) (r .at) → plainBytes (now key) ≡ true
+  goes-number : (r : Reader) (u : Val) → Within (r .text) (r .at)
       → ent 𝓤 (⋆ 𝓤 H A (‵ (B .own r (u ∷ [])) ∷ (‵ (flft κ q) ⊛ ‵ ftrue) ∷ Kept ∷ [])) (sep 𝓤 (Number 𝓤 H A mem run .pre (to-number r u)) (sem 𝓤 H A Own))
-  goes-number r u within keyed =
+  goes-number r u within =
       qed W (‵ (B .own r (u ∷ [])) ∷ (‵ (flft κ q) ⊛ ‵ ftrue) ∷ Kept ∷ []) ∵ move ! (2 ∷ []) $ split3 ! $ move ! (3 ∷ 1 ∷ []) $ fjoin ! $ move ! (3 ∷ []) $ split ! $
       -- [the token of the slice's lifetime; true; what `number` is passed; the token of the key's; what the parameters own]
       move ! (0 ∷ 3 ∷ 1 ∷ []) $ group ! 3 $ use2 W (raw (Number 𝓤 H A mem run .pre (to-number r u)))
-      (qed W (tokens ∷ ‵ (owns (typesAt (number.signature .params) κs) (given-number r) (to-number r u .0 .4)) ∷ []) ∵ says-both ! within keyed $ frame ! $ done !) $ frame ! $ done !
+      (qed W (tokens ∷ ‵ (owns (typesAt (number.signature .params) κs) (given-number r) (to-number r u .0 .4)) ∷ []) ∵ says ! within $ frame ! $ done !) $ frame ! $ done !
 
   number-said : (r : Reader) (t : ReadNumber) → ent 𝓤 (ensured 𝓤 H A number.ended (number.clauses 𝓤 H A mem run) κs (given-number r) tt t) (fact 𝓤 (t ≡ numberOf (r .text) (r .at)))
   number-said r t = exE 𝓤 _ (λ ws. snd∗ 𝓤 (sem 𝓤 H A (lasts number.ended κs (given-number r) ws)) (fact 𝓤 (t ≡ numberOf (r .text) (r .at))))
@@ -172,8 +172,8 @@ module _ {M : Type 1} (𝓤 : URA M) (H : Heap 𝓤) (A : Atoms 𝓤) (W : Given
 
   module _ (C : Calls 𝓤 H) (Λ : Loops 𝓤 H) (fm : FmC 𝓤 H (W .laws) C)
       (known-reader : Triple 𝓤 (C #model·reader·reader-at) (ReaderAt 𝓤 H A mem run)) (known-number : Triple 𝓤 (C #model·reader·number) (Number 𝓤 H A mem run)) where
-    walk : Are rows (Ises rows) a vals → Within s n → plainBytes (now key) ≡ true → ent 𝓤 (onEntry 𝓤 H A number-at.signature κs qs a vals) (WpFn 𝓤 H C Λ code.function (flat rows vals) Post)
-    walk are within keyed =
+    walk : Are rows (Ises rows) a vals → Within s n → ent 𝓤 (onEntry 𝓤 H A number-at.signature κs qs a vals) (WpFn 𝓤 H C Λ code.function (flat rows vals) Post)
+    walk are within =
         qed W (raw (onEntry 𝓤 H A number-at.signature κs qs a vals) ∷ []) ∵ enter ! C Λ code.function (flat rows vals) _ $
         alloc1 ! (λ l₀. alloc1 ! (λ l₁. alloc1 ! (λ l₂. alloc1 ! (λ l₃. alloc1 ! (λ l₄. alloc1 ! (λ l₅. alloc1 ! (λ l₆. alloc0 ! $ params1 ! $
         pass1 ! (init ! 10 refl (shr-slice-lawful 𝓤 H A W (named 0) κ u8 .typed s _ (are .0) .0)) $ pass1 ! (init ! 8 refl (tt, record { fits = are .1 .0 .1 })) $
@@ -187,7 +187,7 @@ module _ {M : Type 1} (𝓤 : URA M) (H : Heap 𝓤) (A : Atoms 𝓤) (W : Given
         -- [what the struct owns; the token of the slice's lifetime; what was kept; room for _6; …; _5; …; _4; …; _3; …; _2; …; _1; …; room for _0; …]
         peeks ! B (Is B) (shows 𝓤 H A B) r (u ∷ []) (λ is.
         land ! (from ! (stop !)) (init ! 3 refl (LL.lawful (T.the-type αᵉ) (T′.the-laws αᵉ) 𝓤 H A W .typed r _ is .0)) $
-        use3 W (raw (Number 𝓤 H A mem run .pre (to-number r u)) ⊛ ‵ Own) (goes-number r u (of-made Within r e within) keyed) $ split ! $
+        use3 W (raw (Number 𝓤 H A mem run .pre (to-number r u)) ⊛ ‵ Own) (goes-number r u (of-made Within r e within)) $ split ! $
         calls-at ! fm (Number 𝓤 H A mem run) known-number (to-number r u)
         (and-then ! (load ! (from ! (stop !)) (look ! 2 refl)) (and-then ! (load ! (from ! (stop !)) (look ! 8 refl)) (and-then ! (load ! (from ! (stop !)) (look ! 6 refl)) (and-then ! (load ! (from ! (stop !)) (look ! 4 refl)) (no-more !))))) (λ u′.
         use1 W (later (some (λ (t : ReadNumber). (tokens ⊛ ‵ (S.the-row .own t (u′ ∷ []))) ⊛ raw (ensured 𝓤 H A number.ended (number.clauses 𝓤 H A mem run) κs (given-number r) tt t)))) (id⊢ 𝓤 _) $ await ! tt $ pick ! (λ t.
@@ -206,7 +206,7 @@ module _ {M : Type 1} (𝓤 : URA M) (H : Heap 𝓤) (A : Atoms 𝓤) (W : Given
   number-at-walks C Λ fm known-reader known-number = walked 𝓤 H A number-at.ended stayed (number-at.clauses 𝓤 H A mem run) (WpFn 𝓤 H C Λ code.function)
       (λ κs. (slice-vals, (uint-vals w64, (slice-vals, (uint-vals w32, (uint-vals w32, tt))))))
       (λ κs. (shr-slice-tells (named 0) (κs .0) u8, (uint-tells w64, (shr-slice-tells (named 1) (κs .1 .0) u8, (uint-tells w32, (uint-tells w32, tt))))))
-      (λ κs qs bounds a g are. needs-both 𝓤 ((a .1 .0 ≤ length (now (a .0))) × (length (now (a .0)) ≤ longestText)) (plainBytes (now (a .1 .1 .0)) ≡ true) _
+      (λ κs qs bounds a g are. needs 𝓤 ((a .1 .0 ≤ length (now (a .0))) × (length (now (a .0)) ≤ longestText)) _
       (walk 𝓤 H A W mem run (κs .0) (κs .1 .0) (qs .0) (qs .1 .0) (a .0) (a .1 .0) (a .1 .1 .0) (a .1 .1 .1 .0) (a .1 .1 .1 .1 .0) C Λ fm known-reader known-number are))
 
 number-at-meets : {M : Type 1} (𝓤 : URA M) (H : Heap 𝓤) (A : Atoms 𝓤) (W : Given 𝓤 H A) (mem : Memory → SProp 𝓤) (run : Routine → Fun 𝓤) (𝓣 : Tables 𝓤 H)
