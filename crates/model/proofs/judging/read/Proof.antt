@@ -11,6 +11,9 @@ use Rattle.model.proofs.Verdicts.{judged-long, judged-short, end-failed
 use Rattle.model.proofs.judging.read.Statement.{statement}
 use Rattle.model.proofs.judging.read.Tie as tie
 
+returns : tie.Need-returns
+returns c = told-refusal _ _ _ _ (judged-long _ (c .if1 .taken))
+
 ended-requires : tie.Need-ended-requires
 ended-requires c κs =
     let g = told-got _ _ _ _ (c .before .before .before .before .before .before .before .before .before .before .model .ensures) _ _ (c .before .before .before .before .total .given .1) in
@@ -39,7 +42,7 @@ pub read-spec : {M : Type 1} → statement M
 read-spec =
     tie.close
     (tie.spec
-    (λ c. told-refusal _ _ _ _ (judged-long _ (c .if1 .taken)))
+    returns
     (λ c κs. search needs)
     (λ c. search needs)
     (λ c. search needs)
