@@ -1,16 +1,14 @@
--- Readings that follow one another, by what the code gives of each: a chain of them, and so many of a thing. Assumes nothing.
-use Prim.Native.Nat.{ℕ, suc, _+_, _-_, _≤_, _<_}
-use mathlib.Core.List.{List, [], _∷_, _++_, append-nil, append-assoc}
-use mathlib.Core.Path.{_≡_, refl, sym, ap, subst, _∙_}
-use native.Mathlib.Omega.{arith}
-use native.Mathlib.Nat.{sub-zero}
+-- Readings that follow one another in a chain, by what the code gives of each. Assumes nothing.
+use Prim.Native.Nat.{ℕ}
+use mathlib.Core.List.{List}
+use mathlib.Core.Path.{_≡_, sym, ap, subst, _∙_}
 use lib.ListN.{drop}
 use Rattle.terms.specs.Bytes.{Text}
 use Rattle.model.specs.declared.At.{At}
 use Rattle.model.specs.declared.Read.{Read}
 use Rattle.model.specs.declared.Read.the-variants as Read
 use Rattle.model.specs.declared.Verdict.{Verdict}
-use Rattle.model.specs.InOrder.{LinesRead, failed, after, Reader, done, _>>=_, each}
+use Rattle.model.specs.InOrder.{LinesRead, failed, after, Reader, done, _>>=_}
 use Rattle.model.specs.Lines.{Line, lines}
 use Rattle.model.specs.Vocabulary.Readings.{Placed, readAt, Tells, InRange}
 
@@ -70,48 +68,3 @@ module _ {A B : Type 0} {s : Text} {y : LinesRead B} {p : At} (rd : Reader A) (f
   unfolding Tells done
   tells-made (Read.Failed v) t h = w .left ∙ then-failed rd _ _ _ v t
   tells-made (Read.Got n q) t h = (f (t .0), w .left ∙ then-after rd _ _ _ _ _ _ (t .1), t .2, h (t .0) n (t .3))
-
--- things read before others
-unfoldable pub onto : {A S : Type 0} → List A → LinesRead (List A × S) → LinesRead (List A × S)
-onto xs (failed v) = failed v
-onto xs (after r at ls) = after (xs ++ r .0, r .1) at ls
-
-onto-none : {A S : Type 0} (x : LinesRead (List A × S)) → onto [] x ≡ x
-onto-none (failed v) = unfold onto in refl
-onto-none (after r at ls) = unfold onto in refl
-
--- one more of them
-onto-more : {A S : Type 0} (xs : List A) (x : A) (later : Reader (List A × S)) (at : ℕ) (ls : List Line)
-    → onto xs ((later >>= (λ r. done (x ∷ r .0, r .1))) at ls) ≡ onto (xs ++ (x ∷ [])) (later at ls)
-unfolding _>>=_ onto done
-onto-more {A} {S} xs x later at ls = go (later at ls)
-  where
-    go : (y : LinesRead (List A × S)) → onto xs (elim y [ failed v ↦ failed v | after r n l ↦ after (x ∷ r .0, r .1) n l ]) ≡ onto (xs ++ (x ∷ [])) y
-    go (failed v) = refl
-    go (after r n l) = rw append-assoc
-
--- so many of a thing, each by its index
-module _ {A S : Type 0} (one : ℕ → S → Reader (A × S)) where
-  pub each-begun : (n : ℕ) (c : S) (at : ℕ) (ls : List Line) → each n 0 c one at ls ≡ onto [] (each (n - 0) 0 c one at ls)
-  each-begun n c at ls = sym (onto-none _ ∙ ap (λ m. each m 0 c one at ls) (sub-zero n))
-
-  module _ (n i : ℕ) (xs : List A) (c : S) (at : ℕ) (ls : List Line) where
-    -- none is left
-    pub each-ended : n ≤ i → onto xs (each (n - i) i c one at ls) ≡ after (xs, c) at ls
-    each-ended h =
-        let z : n - i ≡ 0 = omega arith in
-        rw z (unfold onto each done in (rw append-nil))
-
-    module _ (h : i < n) where
-      one-more : n - i ≡ suc (n - (i + 1))
-      one-more = omega arith
-
-      -- the next is refused
-      pub each-failed : (v : Verdict) → one i c at ls ≡ failed v → onto xs (each (n - i) i c one at ls) ≡ failed v
-      each-failed v e = rw one-more (unfold each in ap (onto xs) (then-failed _ _ at ls v e) ∙ (unfold onto in refl))
-
-      -- the next is read
-      pub each-onward : (a : A × S) (next : ℕ) (rest : List Line) → one i c at ls ≡ after a next rest
-          → onto xs (each (n - i) i c one at ls) ≡ onto (xs ++ (a .0 ∷ [])) (each (n - (i + 1)) (i + 1) (a .1) one next rest)
-      each-onward a next rest e =
-          rw one-more (unfold each in ap (onto xs) (then-after _ _ at ls a next rest e) ∙ onto-more xs (a .0) (each (n - (i + 1)) (i + 1) (a .1) one) next rest)
