@@ -1,17 +1,16 @@
--- The number lines of a class and of a method, one after another: what is left to read after each. Assumes nothing.
+-- The number lines of a method, of a class and of the whole text, one after another: what is left to read after each. Assumes nothing.
 use Prim.Native.Nat.{ℕ, _-_, _≤_, min}
 use mathlib.Core.Bool.{Bool, true, false, _&&_}
-use mathlib.Core.List.{List, []}
-use mathlib.Core.Path.{_≡_, refl}
+use mathlib.Core.List.{[]}
+use mathlib.Core.Path.{_≡_}
 use native.Mathlib.Omega.{arith}
 use lib.Dec.{eqb}
 use Rattle.layout.specs.Layout.{mostAttributes, mostLocals}
 use Rattle.terms.specs.Bytes.{bytes}
-use Rattle.model.specs.Bounds.{edition, mostClasses, mostMethods, mostParams, mostLines, allLines}
+use Rattle.model.specs.Bounds.{mostClasses, mostMethods, mostParams, mostLines, allLines}
 use Rattle.model.specs.InOrder.{Reader, done, _>>=_, numberLine, each}
-use Rattle.model.specs.Lines.{Line}
 use Rattle.model.specs.Model.{Method, Class, Model}
-use Rattle.model.specs.ModelText.{SoFar, linesBegun, zeroIf, codeLine, readMethod, readClass, readModel}
+use Rattle.model.specs.ModelText.{SoFar, linesBegun, zeroIf, codeLine, readMethod, readClass}
 
 -- a range that is 0 on a test goes no further than without it
 pub most-if : (b : Bool) (n m : ℕ) → m ≡ zeroIf b n → m ≤ n
@@ -36,10 +35,6 @@ module _ (classes attrs : ℕ) (so : SoFar) where
     abbrev pub fromParams : ℕ → Reader (Method × SoFar)
     fromParams index = numberLine (bytes "params=") 0 (zeroIf (eqb run 1 && eqb j 0) mostParams) >>= fromLocals
 
-    pub method-chain : (at : ℕ) (ls : List Line) → readMethod classes attrs run j so at ls ≡ (numberLine (bytes "method=") j j >>= fromParams) at ls
-    unfolding readMethod
-    method-chain at ls = refl
-
 -- of a class, from its methods back to its `attrs=`
 module _ (classes k : ℕ) (so : SoFar) where
   abbrev pub fromMethods : ℕ → ℕ → ℕ → ℕ → Reader (Class × SoFar)
@@ -59,17 +54,9 @@ module _ (classes k : ℕ) (so : SoFar) where
   abbrev pub fromAttrs : ℕ → Reader (Class × SoFar)
   fromAttrs index = numberLine (bytes "attrs=") 0 mostAttributes >>= fromGiven
 
-  pub class-chain : (at : ℕ) (ls : List Line) → readClass classes k so at ls ≡ (numberLine (bytes "class=") k k >>= fromAttrs) at ls
-  unfolding readClass
-  class-chain at ls = refl
-
 -- of the whole text, from its classes back to its `classes=`
 abbrev pub fromClasses : ℕ → Reader (Model × SoFar)
 fromClasses count = each count 0 (record { total = 0; creations = []; blocks = [] }) (readClass count)
 
 abbrev pub fromEdition : ℕ → Reader (Model × SoFar)
-fromEdition edition = numberLine (bytes "classes=") 1 mostClasses >>= fromClasses
-
-pub model-chain : (at : ℕ) (ls : List Line) → readModel at ls ≡ (numberLine (bytes "creol=") edition edition >>= fromEdition) at ls
-unfolding readModel
-model-chain at ls = refl
+fromEdition _ = numberLine (bytes "classes=") 1 mostClasses >>= fromClasses

@@ -11,7 +11,7 @@ use Rattle.model.specs.Lines.{plainByte, plainBytes}
 use Rattle.model.specs.Model.{Class}
 use Rattle.model.specs.ModelText.{SoFar, readClass}
 use Rattle.model.specs.Vocabulary.Readings.{readAt, between}
-use Rattle.model.proofs.Chains.{most-if, fromMethods, fromCount, fromRun, fromGiven, fromAttrs, class-chain}
+use Rattle.model.proofs.Chains.{most-if, fromMethods, fromCount, fromRun, fromGiven, fromAttrs}
 use Rattle.model.proofs.Onward.{Comes, told-got, number-stops, number-passed, tells-made}
 use Rattle.model.proofs.Puts.{class-put}
 use Rattle.model.proofs.classes.class.Statement.{statement}
@@ -25,7 +25,8 @@ Left b rd q =
     Comes (now (a .text)) (readAt (readClass (a .classes) (a .k) so) (now (a .text)) (a .at)) (rd (a .classes) (a .k) so) q
 
 begun : (b : tie.Start) → Left b (λ n k so. numberLine (bytes "class=") k k >>= fromAttrs n k so) (b .args .at)
-begun b = record { left = class-chain _ _ _ _ _; placed = b .pre .1 .0 }
+unfolding readClass
+begun b = record { left = refl; placed = b .pre .1 .0 }
 
 -- after `class=`
 after-index : (c : tie.After-read) → Left (c .before .before .before .before .before .before .before) (λ n k so. fromAttrs n k so k) (c .read .given .0 .1 .0)

@@ -13,7 +13,7 @@ use Rattle.model.specs.Model.{Model}
 use Rattle.model.specs.ModelText.{SoFar, readModel}
 use Rattle.model.specs.Vocabulary.Creations.{creationsFrom}
 use Rattle.model.specs.Vocabulary.Readings.{begin, readAt}
-use Rattle.model.proofs.Chains.{fromClasses, fromEdition, model-chain}
+use Rattle.model.proofs.Chains.{fromClasses, fromEdition}
 use Rattle.model.proofs.Onward.{Comes, told-got, number-stops, number-passed, tells-so}
 use Rattle.model.proofs.Puts.{model-put}
 use Rattle.model.proofs.judging.model.Statement.{statement}
@@ -24,7 +24,8 @@ abbrev Left : tie.Start → Reader (Model × SoFar) → At → Type 0
 Left b rd q = let s = now (b .args .text) in Comes s (readAt readModel s begin) rd q
 
 begun : (b : tie.Start) → Left b (numberLine (bytes "creol=") edition edition >>= fromEdition) begin
-begun b = record { left = model-chain _ _; placed = (omega arith, omega arith, b .pre .1) }
+unfolding readModel
+begun b = record { left = refl; placed = (omega arith, omega arith, b .pre .1) }
 
 -- after `creol=`
 after-edition : (c : tie.After-read) → Left (c .before .before .before .before .before .before .before) (fromEdition edition) (c .read .given .0 .1 .0)

@@ -11,7 +11,7 @@ use Rattle.model.specs.Lines.{plainByte, plainBytes}
 use Rattle.model.specs.Model.{Method}
 use Rattle.model.specs.ModelText.{SoFar, linesBegun, readMethod}
 use Rattle.model.specs.Vocabulary.Readings.{readAt, between}
-use Rattle.model.proofs.Chains.{most-if, fromCode, fromLines, fromLocals, fromParams, method-chain}
+use Rattle.model.proofs.Chains.{most-if, fromCode, fromLines, fromLocals, fromParams}
 use Rattle.model.proofs.Onward.{Comes, told-got, number-stops, number-passed, tells-made}
 use Rattle.model.proofs.Puts.{method-put}
 use Rattle.model.proofs.methods.method.Statement.{statement}
@@ -25,7 +25,8 @@ Left b rd q =
     Comes (now (a .text)) (readAt (readMethod (a .class .classes) (a .class .attrs) (a .class .run) (a .j) so) (now (a .text)) (a .at)) (rd (a .class) so) q
 
 begun : (b : tie.Start) → (let j = b .args .j in Left b (λ o so. numberLine (bytes "method=") j j >>= fromParams (o .classes) (o .attrs) so (o .run) j) (b .args .at))
-begun b = record { left = method-chain _ _ _ _ _ _ _; placed = b .pre .1 .0 }
+unfolding readMethod
+begun b = record { left = refl; placed = b .pre .1 .0 }
 
 -- after `method=`
 after-index : (c : tie.After-read) → (let b = c .before .before .before .before .before .before .before in let j = b .args .j in
