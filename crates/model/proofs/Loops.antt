@@ -95,16 +95,20 @@ module _ {A : Type 0} {s : Text} {one : ℕ → SoFar → Reader (A × SoFar)} {
       let z : count - i ≡ 0 = omega arith in
       ((p .items, so), p .rest ∙ rw (z, append-nil) refl, p .placed, told (omega (arith, p .within)))
 
--- what a longer reading leaves, and then another
-pub left-then : {A B C : Type 0} {s : Text} {t u v : Table} {x y z : List ℕ} {P : A → ℕ → Type 0} {Q : B → ℕ → Type 0} {R : C → ℕ → Type 0} {k m i j total all n : ℕ}
-    {a : A × SoFar} {b : B × SoFar} (c : C) → Left s t x u y P k m total a all → Left s u y v z Q i j all b n → k ≤ i → m ≤ j → R c n
-    → Left s t x v z R k m total (c, between v n) n
-left-then c l o f g told = record {
+-- what a longer reading leaves of so many items, each told with its index, and of one more
+pub left-more : {A : Type 0} {s : Text} {t u v : Table} {x y z : List ℕ} (P : Table → List ℕ → ℕ → ℕ → A → Type 0) {k m i j total all n d : ℕ} {xs : List A} {so : SoFar} {a : A × SoFar}
+    → Left s t x u y (λ xs n. (length xs ≡ d) × EachFrom (P u y n) 0 xs) k m total (xs, so) all → Left s u y v z (λ o n. P v z n d o) i j all a n → k ≤ i → m ≤ j
+    → ((e : ℕ) (o : A) → e < d → P u y all e o → P v z n e o)
+    → Left s t x v z (λ xs n. (length xs ≡ d + 1) × EachFrom (P v z n) 0 xs) k m total (xs ++ (a .0 ∷ []), between v n) n
+left-more P {xs = xs} {a = a} l o f g keep = record {
   so = refl;
   more = omega (arith, l .more, o .more);
   most = o .most;
   kept = same-then (l .kept) (o .kept) (omega arith) f (omega arith) g (omega arith) (l .more);
-  told = told;
+  told = (
+    rw (append-length xs (a .0), l .told .0) refl,
+    each-more _ _ 0 xs (a .0) (λ e c _ h. keep e c (omega (arith, l .told .0))) (l .told .1) (omega (arith, l .told .0)) (o .told),
+  );
 }
 
 -- so many code lines of a method are passed, with so many blocks open

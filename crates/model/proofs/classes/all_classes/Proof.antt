@@ -6,12 +6,12 @@ use borrow.Author.Needs.{needs}
 use denote.Ref.{now}
 use Rattle.whole.specs.Lists.{EachFrom}
 use Rattle.model.specs.ModelText.{readClass}
+use Rattle.model.specs.Vocabulary.Belonging.{LineTold, ClassTold}
 use Rattle.model.specs.Vocabulary.Readings.{Tells, between, ClassesLeft}
 use Rattle.model.specs.Vocabulary.Table.{Sized}
 use Rattle.model.proofs.Framing.{same-self, line-kept, class-kept}
-use Rattle.model.proofs.Loops.{Passed, passed-none, passed-stopped, passed-onward, passed-all, left-then}
+use Rattle.model.proofs.Loops.{Passed, passed-none, passed-stopped, passed-onward, passed-all, left-more}
 use Rattle.model.proofs.Onward.{told-failed, told-got}
-use Rattle.model.proofs.TableRows.{append-length, each-more}
 use Rattle.model.proofs.classes.all_classes.Statement.{statement}
 use Rattle.model.proofs.classes.all_classes.Tie as tie
 
@@ -47,12 +47,10 @@ loop-again c =
     let i = k .before .before .before .before .loop .inv .0 in
     let a = k .before .before .before .before .before .before .before .before .args in
     let g = told-got _ _ _ _ (k .class .ensures) _ _ (c .before .after .given .1) in
-    let h = i .held in
     let l = g .3 in (
-      passed-onward i (k .before .before .before .loop-test .taken) (g .0) _ (g .1) (g .2) (l .so) (left-then _ h l (omega arith) (omega arith) (
-        rw (append-length (i .items) (g .0 .0), h .told .0) refl,
-        each-more _ _ 0 (i .items) _ (λ k c _ d. class-kept (l .kept) _ _ (l .more) _ _ (line-kept (l .kept) (now (a .text)) (a .count) _ (omega arith)) k c (omega (arith, h .told .0)) (omega (arith, h .told .0))) (h .told .1) (omega (arith, h .told .0)) (l .told),
-      )),
+      passed-onward i (k .before .before .before .loop-test .taken) (g .0) _ (g .1) (g .2) (l .so)
+          (left-more (λ t x n. ClassTold t n (LineTold (now (a .text)) (a .count) t x)) (i .held) l (omega arith) (omega arith)
+          (λ k c d. class-kept (l .kept) _ _ (l .more) _ _ (line-kept (l .kept) (now (a .text)) (a .count) _ (omega arith)) k c (omega arith) (omega arith))),
       (search needs, search needs),
     )
 

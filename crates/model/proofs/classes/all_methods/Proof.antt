@@ -6,12 +6,12 @@ use borrow.Author.Needs.{needs}
 use denote.Ref.{now}
 use Rattle.whole.specs.Lists.{EachFrom}
 use Rattle.model.specs.ModelText.{readMethod}
+use Rattle.model.specs.Vocabulary.Belonging.{LineTold, MethodTold}
 use Rattle.model.specs.Vocabulary.Readings.{Tells, between, MethodsLeft}
 use Rattle.model.specs.Vocabulary.Table.{Sized}
 use Rattle.model.proofs.Framing.{same-self, line-kept, method-kept}
-use Rattle.model.proofs.Loops.{Passed, passed-none, passed-stopped, passed-onward, passed-all, left-then}
+use Rattle.model.proofs.Loops.{Passed, passed-none, passed-stopped, passed-onward, passed-all, left-more}
 use Rattle.model.proofs.Onward.{told-failed, told-got}
-use Rattle.model.proofs.TableRows.{append-length, each-more}
 use Rattle.model.proofs.classes.all_methods.Statement.{statement}
 use Rattle.model.proofs.classes.all_methods.Tie as tie
 
@@ -48,12 +48,10 @@ loop-again c =
     let i = k .before .before .before .before .loop .inv .0 in
     let a = k .before .before .before .before .before .before .before .before .args in
     let g = told-got _ _ _ _ (k .method .ensures) _ _ (c .before .after .given .1) in
-    let h = i .held in
     let l = g .3 in (
-      passed-onward i (k .before .before .before .loop-test .taken) (g .0) _ (g .1) (g .2) (l .so) (left-then _ h l (omega arith) (omega arith) (
-        rw (append-length (i .items) (g .0 .0), h .told .0) refl,
-        each-more _ _ 0 (i .items) _ (λ j o _ d. method-kept (l .kept) _ _ (l .more) _ _ (line-kept (l .kept) (now (a .text)) (a .class .classes) _ (omega arith)) _ _ j o (omega (arith, h .told .0))) (h .told .1) (omega (arith, h .told .0)) (l .told),
-      )),
+      passed-onward i (k .before .before .before .loop-test .taken) (g .0) _ (g .1) (g .2) (l .so)
+          (left-more (λ t x n. MethodTold t n (LineTold (now (a .text)) (a .class .classes) t x) (a .class .attrs) (a .class .index)) (i .held) l (omega arith) (omega arith)
+          (λ j o d. method-kept (l .kept) _ _ (l .more) _ _ (line-kept (l .kept) (now (a .text)) (a .class .classes) _ (omega arith)) _ _ j o (omega arith))),
       (search needs, search needs),
     )
 

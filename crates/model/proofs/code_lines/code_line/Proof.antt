@@ -20,10 +20,6 @@ inside : (c : tie.After-place) → (let a = c .before .before .before .before .b
     (v .0 ≤ v .1 .0) × (v .1 .0 < length (now (a .text))) × (v .1 .0 - v .0 ≤ 120))
 inside c = value-inside _ _ _ (λ _ v. right v) _ (c .before .before .key-line .ensures) _ _ (c .place .given .1)
 
-key-line-requires : tie.Need-key-line-requires
-unfolding plainByte plainBytes
-key-line-requires c κs = (c .before .before .before .before .pre .1 .0, refl)
-
 code-value-requires : tie.Need-code-value-requires
 code-value-requires c κs =
     let k = c .before .before .before in
@@ -90,11 +86,12 @@ returns-3 c = λ total bs e.
     )
 
 pub code-line-spec : {M : Type 1} → statement M
+unfolding plainByte plainBytes
 code-line-spec =
     tie.close
     (tie.spec
     (λ c. search needs)
-    key-line-requires
+    (λ c κs. (c .before .before .before .before .pre .1 .0, refl))
     (λ c. search needs)
     (λ c. search needs)
     (λ c. let h = inside (c .before) in search needs)
