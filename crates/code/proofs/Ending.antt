@@ -9,6 +9,7 @@ use Rattle.terms.specs.declared.ReadWord.the-variants as Word
 use Rattle.terms.specs.Bytes.{Text}
 use Rattle.terms.specs.Parsed.{Parsed, got, bad, next, mapped, ended}
 use Rattle.code.specs.declared.Arguments.{Arguments}
+use Rattle.code.specs.declared.ReadCode.{ReadCode}
 use Rattle.code.specs.declared.ReadList.{ReadList}
 use Rattle.code.specs.Vocabulary.Answers.{asList, asStatement, argumentsOf, refusedAt, asCode, finished}
 use Rattle.code.specs.Statements.{Statement}
@@ -42,6 +43,21 @@ module _ {A B : Type 0} (q : Parsed A) (p : ℕ) where
   pub mapped-is-bad : (h : A → B) → q ≡ bad p → mapped h q ≡ bad p
   unfolding mapped
   mapped-is-bad h e = ap (mapped h) e
+
+-- what the code answers for a form, by its first part: with more to read behind it, or put as a statement
+module _ (s : Text) {A : Type 0} {q : Parsed A} {p : ℕ} {r : ReadCode} where
+  pub next-refused : (k : ℕ → A → Parsed (Statement Worked Worked)) → q ≡ bad p → r ≡ refusedAt p → r ≡ asCode (ended s (next q k))
+  next-refused k e f = f ∙ code-bad s _ p (after-bad q p k e)
+
+  pub next-read : (k : ℕ → A → Parsed (Statement Worked Worked)) {a : A} → q ≡ got p a → r ≡ asCode (ended s (k p a)) → r ≡ asCode (ended s (next q k))
+  next-read k {a} e f = f ∙ sym (ap (λ x. asCode (ended s x)) (after-got q p a k e))
+
+  pub put-refused : (h : A → Statement Worked Worked) → q ≡ bad p → r ≡ refusedAt p → r ≡ asCode (ended s (mapped h q))
+  put-refused h e f = f ∙ code-bad s _ p (mapped-is-bad q p h e)
+
+  pub put-read : (h : A → Statement Worked Worked) {a : A} → q ≡ got p a → r ≡ finished s p (asStatement (h a)) (argumentsOf (h a))
+      → r ≡ asCode (ended s (mapped h q))
+  put-read h {a} e f = f ∙ code-got s _ p (h a) (mapped-is-got q p h a e)
 
 -- what a list's reader gives says whether the list was read
 pub list-bad : (q : Parsed Arguments) (r : ReadList) (p : ℕ) → r ≡ asList q → r .end ≡ Word.Bad p → q ≡ bad p

@@ -4,9 +4,12 @@ use mathlib.Core.Option.{Option, none, some}
 use mathlib.Core.Path.{_≡_, refl, sym, ap}
 use Rattle.whole.specs.declared.Operator.{Operator}
 use Rattle.whole.specs.declared.Worked.{Worked}
+use Rattle.terms.specs.declared.OperatorFound.{OperatorFound}
 use Rattle.terms.specs.declared.OperatorFound.the-variants as Operator′
 use Rattle.terms.specs.declared.ReadNumber.the-variants as Number
+use Rattle.terms.specs.declared.ReadValue.{ReadValue}
 use Rattle.terms.specs.declared.ReadValue.the-variants as Value
+use Rattle.terms.specs.declared.ReadVariable.{ReadVariable}
 use Rattle.terms.specs.declared.ReadVariable.the-variants as Variable′
 use Rattle.terms.specs.declared.ReadWord.the-variants as Word
 use Rattle.terms.specs.declared.Variable.{Variable}
@@ -33,25 +36,25 @@ unfolding asNumber
 number-bad (got at b) p e = cc
 number-bad (bad at) p e = cc
 
-pub variable-got : (q : Parsed Variable) (p : ℕ) (a : Variable) → asVariable q ≡ Variable′.Got p a → q ≡ got p a
+pub variable-got : {q : Parsed Variable} {r : ReadVariable} {p : ℕ} {a : Variable} → r ≡ asVariable q → r ≡ Variable′.Got p a → q ≡ got p a
 unfolding asVariable
-variable-got (got at b) p a e = cc
-variable-got (bad at) p a e = cc
+variable-got {q = got at b} e f = cc
+variable-got {q = bad at} e f = cc
 
-pub variable-bad : (q : Parsed Variable) (p : ℕ) → asVariable q ≡ Variable′.Bad p → q ≡ bad p
+pub variable-bad : {q : Parsed Variable} {r : ReadVariable} {p : ℕ} → r ≡ asVariable q → r ≡ Variable′.Bad p → q ≡ bad p
 unfolding asVariable
-variable-bad (got at b) p e = cc
-variable-bad (bad at) p e = cc
+variable-bad {q = got at b} e f = cc
+variable-bad {q = bad at} e f = cc
 
-pub value-got : (q : Parsed Worked) (p : ℕ) (a : Worked) → asValue q ≡ Value.Got p a → q ≡ got p a
+pub value-got : {q : Parsed Worked} {r : ReadValue} {p : ℕ} {a : Worked} → r ≡ asValue q → r ≡ Value.Got p a → q ≡ got p a
 unfolding asValue
-value-got (got at b) p a e = cc
-value-got (bad at) p a e = cc
+value-got {q = got at b} e f = cc
+value-got {q = bad at} e f = cc
 
-pub value-bad : (q : Parsed Worked) (p : ℕ) → asValue q ≡ Value.Bad p → q ≡ bad p
+pub value-bad : {q : Parsed Worked} {r : ReadValue} {p : ℕ} → r ≡ asValue q → r ≡ Value.Bad p → q ≡ bad p
 unfolding asValue
-value-bad (got at b) p e = cc
-value-bad (bad at) p e = cc
+value-bad {q = got at b} e f = cc
+value-bad {q = bad at} e f = cc
 
 -- what was read as one thing, answered as a value
 module _ {A : Type 0} (f : A → Worked) (q : Parsed A) where
@@ -64,12 +67,12 @@ module _ {A : Type 0} (f : A → Worked) (q : Parsed A) where
   answer-bad p e = sym (ap (λ r. asValue (mapped f r)) e)
 
 -- an operator that was found, or none
-pub operator-some : (o : Option Operator) (x : Operator) → asOperator o ≡ Operator′.Is x → o ≡ some x
+pub operator-some : {o : Option Operator} {r : OperatorFound} {x : Operator} → r ≡ asOperator o → r ≡ Operator′.Is x → o ≡ some x
 unfolding asOperator
-operator-some none x e = cc
-operator-some (some y) x e = cc
+operator-some {o = none} e f = cc
+operator-some {o = some y} e f = cc
 
-pub operator-none : (o : Option Operator) → asOperator o ≡ Operator′.Nothing → o ≡ none
+pub operator-none : {o : Option Operator} {r : OperatorFound} → r ≡ asOperator o → r ≡ Operator′.Nothing → o ≡ none
 unfolding asOperator
-operator-none none e = refl
-operator-none (some y) e = cc
+operator-none {o = none} e f = refl
+operator-none {o = some y} e f = cc

@@ -1,7 +1,7 @@
 -- What closes a bracket, what stands in one, and the number that falls at each call of a reader. Assumes nothing.
 use Prim.Native.Nat.{ℕ, zero, suc, _+_, _-_, _*_, _≤_, _<_}
 use mathlib.Core.List.{[], _∷_}
-use mathlib.Core.Path.{_≡_, refl, ap, _∙_}
+use mathlib.Core.Path.{_≡_, refl, sym, ap, _∙_}
 use native.Mathlib.Nat.{suc-mul}
 use native.Mathlib.Omega.{arith}
 use borrow.Author.Tests.{eq-eqb, ne-eqb}
@@ -32,6 +32,18 @@ module _ {A : Type 0} (b : ℕ) (s : Text) (q : Parsed A) (p : ℕ) where
 
     pub closed-none : (byteAt s p ≡ b → ⊥) → closed b s q ≡ bad p
     closed-none n = at-closing ∙ ap (mapped (λ _. a)) (word-no b [] s p (ne-eqb _ b n)) ∙ mapped-bad (λ _. a) p
+
+-- what a reader with a closing byte answers: its item was refused, the byte stands behind it, or another one does
+module _ {A B : Type 0} (answer : Parsed A → B) (b : ℕ) (s : Text) {w q : Parsed A} {p : ℕ} (c : w ≡ closed b s q) where
+  pub closing-bad : q ≡ bad p → answer (bad p) ≡ answer w
+  closing-bad e = sym (ap answer (c ∙ closed-fail b s q p e))
+
+  module _ {a : A} (e : q ≡ got p a) {x : ℕ} (f : x ≡ byteAt s p) where
+    pub closing-got : x ≡ b → answer (got (p + 1) a) ≡ answer w
+    closing-got g = sym (ap answer (c ∙ closed-go b s q p a e (sym f ∙ g)))
+
+    pub closing-none : (x ≡ b → ⊥) → answer (bad p) ≡ answer w
+    closing-none n = sym (ap answer (c ∙ closed-none b s q p a e (λ g. n (f ∙ g))))
 
 module _ {A : Type 0} (R : Reading A) (lim : Limits) (s : Text) where
   -- a factor, by what it begins with

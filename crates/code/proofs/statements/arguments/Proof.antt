@@ -67,14 +67,14 @@ unfolding asList
 returns-2 c =
     let s = c .before .before .before .before .before .before .before .before in
     (λ i. record { end = Word.Bad (c .before .before .p .given .0 .0); arguments = c .no-arguments2 .ensures i })
-    ∙ sym (ap asList (arguments-bad (s .args .cells .now) (s .args .around) 0 (s .args .s .now) (s .args .more) (s .args .at) (sym (c .before .before .before .before .before .before .byte-at .ensures) ∙ c .before .before .before .before .before .if1 .left) _ (value-bad _ _ (sym (c .before .before .before .before .expression .ensures) ∙ c .before .before .p .given .1))))
+    ∙ sym (ap asList (arguments-bad (s .args .cells .now) (s .args .around) 0 (s .args .s .now) (s .args .more) (s .args .at) (sym (c .before .before .before .before .before .before .byte-at .ensures) ∙ c .before .before .before .before .before .if1 .left) _ (value-bad (c .before .before .before .before .expression .ensures) (c .before .before .p .given .1))))
 
 returns-3 : tie.Need-returns-3
 returns-3 c =
     let s = c .before .before .before .before .before .before .before .before .before .before in
     c .gathered .ensures
     ∙ ap (λ a. asList (gatheredRead (s .args .cells .now) (s .args .around) 0 (s .args .s .now) (s .args .more) (c .before .before .before .before .p2 .given .0 .0) a)) (first (c .before))
-    ∙ sym (ap asList (arguments-got (s .args .cells .now) (s .args .around) 0 (s .args .s .now) (s .args .more) (s .args .at) (sym (c .before .before .before .before .before .before .before .before .byte-at .ensures) ∙ c .before .before .before .before .before .before .before .if1 .left) _ _ (value-got _ _ _ (sym (c .before .before .before .before .before .before .expression .ensures) ∙ c .before .before .before .before .p2 .given .1))))
+    ∙ sym (ap asList (arguments-got (s .args .cells .now) (s .args .around) 0 (s .args .s .now) (s .args .more) (s .args .at) (sym (c .before .before .before .before .before .before .before .before .byte-at .ensures) ∙ c .before .before .before .before .before .before .before .if1 .left) _ _ (value-got (c .before .before .before .before .before .before .expression .ensures) (c .before .before .before .before .p2 .given .1))))
 
 pub arguments-spec : {M : Type 1} → statement M
 arguments-spec =

@@ -1,69 +1,25 @@
 -- `code::statements::call_form` meets its contract. Assumes nothing.
 use borrow.Author.Needs.{needs}
-use mathlib.Core.Path.{sym, ap, _∙_}
-use Rattle.code.proofs.Ending.{code-bad, after-got, after-bad}
-use Rattle.code.specs.Vocabulary.Answers.{asCode}
+use Rattle.code.proofs.Ending.{next-refused, next-read}
 use Rattle.code.specs.Reader.{target, operand, rest}
 use Rattle.terms.proofs.Answers.{variable-got, variable-bad, value-got, value-bad}
-use Rattle.terms.specs.Parsed.{ended}
 use Rattle.code.proofs.statements.call_form.Statement.{statement}
 use Rattle.code.proofs.statements.call_form.Tie as tie
 
-target-requires : tie.Need-target-requires
-target-requires c κs = search needs
-
-enum-known-p : tie.Need-enum-known-p
-enum-known-p c = search needs
-
-refused-requires : tie.Need-refused-requires
-refused-requires c κs = search needs
-
-enum-known-p-2 : tie.Need-enum-known-p-2
-enum-known-p-2 c = search needs
-
-spaced-requires : tie.Need-spaced-requires
-spaced-requires c κs = search needs
-
-enum-known-q : tie.Need-enum-known-q
-enum-known-q c = search needs
-
-refused-requires-2 : tie.Need-refused-requires-2
-refused-requires-2 c κs = search needs
-
-enum-known-q-2 : tie.Need-enum-known-q-2
-enum-known-q-2 c = search needs
-
-method-requires : tie.Need-method-requires
-method-requires c κs = search needs
-
-returns : tie.Need-returns
-unfolding rest target
-returns c = c .refused .ensures ∙ code-bad _ _ _ (after-bad _ _ _ (variable-bad _ _ (sym (c .before .before .before .before .target .ensures) ∙ c .before .before .p .given .1)))
-
-returns-2 : tie.Need-returns-2
-unfolding rest target operand
-returns-2 c = c .refused2 .ensures ∙ code-bad _ _ _ (after-got _ _ _ _ (variable-got _ _ _ (sym (c .before .before .before .before .before .before .before .before .target .ensures) ∙ c .before .before .before .before .before .before .p2 .given .1)) ∙ after-bad _ _ _ (value-bad _ _ (sym (c .before .before .before .before .spaced .ensures) ∙ c .before .before .q .given .1)))
-
-returns-3 : tie.Need-returns-3
-unfolding rest target operand
-returns-3 c =
-    let s = c .before .before .before .before .before .before .before .before .before .before in
-    c .method .ensures
-    ∙ sym (ap (λ q. asCode (ended (s .args .s .now) q)) (after-got _ _ _ _ (variable-got _ _ _ (sym (c .before .before .before .before .before .before .before .before .target .ensures) ∙ c .before .before .before .before .before .before .p2 .given .1)) ∙ after-got _ _ _ _ (value-got _ _ _ (sym (c .before .before .before .before .spaced .ensures) ∙ c .before .before .q2 .given .1))))
-
 pub call-form-spec : {M : Type 1} → statement M
+unfolding rest target operand
 call-form-spec =
     tie.close
     (tie.spec
-    target-requires
-    enum-known-p
-    refused-requires
-    enum-known-p-2
-    spaced-requires
-    enum-known-q
-    refused-requires-2
-    enum-known-q-2
-    method-requires
-    returns
-    returns-2
-    returns-3)
+    (λ c κs. search needs)
+    (λ c. search needs)
+    (λ c κs. search needs)
+    (λ c. search needs)
+    (λ c κs. search needs)
+    (λ c. search needs)
+    (λ c κs. search needs)
+    (λ c. search needs)
+    (λ c κs. search needs)
+    (λ c. next-refused _ _ (variable-bad (c .before .before .before .before .target .ensures) (c .before .before .p .given .1)) (c .refused .ensures))
+    (λ c. next-read _ _ (variable-got (c .before .before .before .before .before .before .before .before .target .ensures) (c .before .before .before .before .before .before .p2 .given .1)) (next-refused _ _ (value-bad (c .before .before .before .before .spaced .ensures) (c .before .before .q .given .1)) (c .refused2 .ensures)))
+    (λ c. next-read _ _ (variable-got (c .before .before .before .before .before .before .before .before .target .ensures) (c .before .before .before .before .before .before .p2 .given .1)) (next-read _ _ (value-got (c .before .before .before .before .spaced .ensures) (c .before .before .q2 .given .1)) (c .method .ensures))))

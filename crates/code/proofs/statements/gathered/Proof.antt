@@ -76,7 +76,7 @@ returns-2 c =
     (λ i. record { end = Word.Bad (c .before .before .p .given .0 .0); arguments = c .no-arguments .ensures i })
     ∙ sym (ap asList (l .inv .1
     ∙ ap (λ n. gatheredRead (s .args .cells .now) (s .args .around) 0 (s .args .s .now) n (l .end) (l .list)) (more-is (l .left) (f .before .before .loop-test .taken))
-    ∙ counted-fail comma (λ _. withOne) (s .args .s .now) (expressionRead (s .args .cells .now) (s .args .around) (s .args .s .now) brackets) (l .end) (l .list) tt (found f) _ (l .left - 1) (value-bad _ _ (sym (c .before .before .before .before .expression .ensures) ∙ c .before .before .p .given .1))))
+    ∙ counted-fail comma (λ _. withOne) (s .args .s .now) (expressionRead (s .args .cells .now) (s .args .around) (s .args .s .now) brackets) (l .end) (l .list) tt (found f) _ (l .left - 1) (value-bad (c .before .before .before .before .expression .ensures) (c .before .before .p .given .1))))
 
 enum-known-p-2 : tie.Need-enum-known-p-2 Inv-loop μ-loop
 enum-known-p-2 c = search needs
@@ -108,7 +108,7 @@ loop-again c =
       omega arith,
       l .inv .1
           ∙ ap (λ n. gatheredRead (s .args .cells .now) (s .args .around) 0 (s .args .s .now) n (l .end) (l .list)) (more-is (l .left) h)
-          ∙ counted-go comma (λ _. withOne) (s .args .s .now) (expressionRead (s .args .cells .now) (s .args .around) (s .args .s .now) brackets) (l .end) (l .list) tt (found f) _ (l .left - 1) _ (value-got _ _ _ (sym (c .before .before .before .before .expression .ensures) ∙ c .before .before .p2 .given .1))
+          ∙ counted-go comma (λ _. withOne) (s .args .s .now) (expressionRead (s .args .cells .now) (s .args .around) (s .args .s .now) brackets) (l .end) (l .list) tt (found f) _ (l .left - 1) _ (value-got (c .before .before .before .before .expression .ensures) (c .before .before .p2 .given .1))
           ∙ ap (λ a. gatheredRead (s .args .cells .now) (s .args .around) 0 (s .args .s .now) (l .left - 1) (c .before .before .p2 .given .0 .0) a) (sym (c .with-one .ensures)),
     )
 

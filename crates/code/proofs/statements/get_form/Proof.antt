@@ -1,66 +1,26 @@
 -- `code::statements::get_form` meets its contract. Assumes nothing.
 use borrow.Author.Needs.{needs}
-use mathlib.Core.Path.{sym, _∙_}
-use Rattle.code.proofs.Ending.{code-bad, code-got, after-got, after-bad, mapped-is-got, mapped-is-bad}
+use Rattle.code.proofs.Ending.{next-refused, next-read, put-refused, put-read}
 use Rattle.code.specs.Vocabulary.Answers.{asStatement, argumentsOf}
-use Rattle.code.specs.Reader.{target, operand, rest}
-use Rattle.code.specs.Statements.{get}
+use Rattle.code.specs.Reader.{target, rest}
 use Rattle.terms.proofs.Answers.{variable-got, variable-bad}
 use Rattle.code.proofs.statements.get_form.Statement.{statement}
 use Rattle.code.proofs.statements.get_form.Tie as tie
 
-target-requires : tie.Need-target-requires
-target-requires c κs = search needs
-
-enum-known-p : tie.Need-enum-known-p
-enum-known-p c = search needs
-
-refused-requires : tie.Need-refused-requires
-refused-requires c κs = search needs
-
-enum-known-p-2 : tie.Need-enum-known-p-2
-enum-known-p-2 c = search needs
-
-variable-requires : tie.Need-variable-requires
-variable-requires c κs = search needs
-
-enum-known-q : tie.Need-enum-known-q
-enum-known-q c = search needs
-
-refused-requires-2 : tie.Need-refused-requires-2
-refused-requires-2 c κs = search needs
-
-enum-known-q-2 : tie.Need-enum-known-q-2
-enum-known-q-2 c = search needs
-
-plain-requires : tie.Need-plain-requires
-plain-requires c κs = search needs
-
-returns : tie.Need-returns
-unfolding rest target
-returns c = c .refused .ensures ∙ code-bad _ _ _ (after-bad _ _ _ (variable-bad _ _ (sym (c .before .before .before .before .target .ensures) ∙ c .before .before .p .given .1)))
-
-returns-2 : tie.Need-returns-2
-unfolding rest target operand
-returns-2 c = c .refused2 .ensures ∙ code-bad _ _ _ (after-got _ _ _ _ (variable-got _ _ _ (sym (c .before .before .before .before .before .before .before .before .target .ensures) ∙ c .before .before .before .before .before .before .p2 .given .1)) ∙ mapped-is-bad _ _ _ (variable-bad _ _ (sym (c .before .before .before .before .variable .ensures) ∙ c .before .before .q .given .1)))
-
-returns-3 : tie.Need-returns-3
-unfolding rest target operand asStatement argumentsOf
-returns-3 c = c .plain .ensures ∙ code-got _ _ _ (get (c .before .before .before .before .before .before .p2 .given .0 .1 .0) (c .before .before .q2 .given .0 .1 .0)) (after-got _ _ _ _ (variable-got _ _ _ (sym (c .before .before .before .before .before .before .before .before .target .ensures) ∙ c .before .before .before .before .before .before .p2 .given .1)) ∙ mapped-is-got _ _ _ _ (variable-got _ _ _ (sym (c .before .before .before .before .variable .ensures) ∙ c .before .before .q2 .given .1)))
-
 pub get-form-spec : {M : Type 1} → statement M
+unfolding rest target asStatement argumentsOf
 get-form-spec =
     tie.close
     (tie.spec
-    target-requires
-    enum-known-p
-    refused-requires
-    enum-known-p-2
-    variable-requires
-    enum-known-q
-    refused-requires-2
-    enum-known-q-2
-    plain-requires
-    returns
-    returns-2
-    returns-3)
+    (λ c κs. search needs)
+    (λ c. search needs)
+    (λ c κs. search needs)
+    (λ c. search needs)
+    (λ c κs. search needs)
+    (λ c. search needs)
+    (λ c κs. search needs)
+    (λ c. search needs)
+    (λ c κs. search needs)
+    (λ c. next-refused _ _ (variable-bad (c .before .before .before .before .target .ensures) (c .before .before .p .given .1)) (c .refused .ensures))
+    (λ c. next-read _ _ (variable-got (c .before .before .before .before .before .before .before .before .target .ensures) (c .before .before .before .before .before .before .p2 .given .1)) (put-refused _ _ (variable-bad (c .before .before .before .before .variable .ensures) (c .before .before .q .given .1)) (c .refused2 .ensures)))
+    (λ c. next-read _ _ (variable-got (c .before .before .before .before .before .before .before .before .target .ensures) (c .before .before .before .before .before .before .p2 .given .1)) (put-read _ _ (variable-got (c .before .before .before .before .variable .ensures) (c .before .before .q2 .given .1)) (c .plain .ensures))))

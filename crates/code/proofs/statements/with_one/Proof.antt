@@ -9,25 +9,6 @@ use Rattle.code.specs.Vocabulary.Answers.{withOne}
 use Rattle.code.proofs.statements.with_one.Statement.{statement}
 use Rattle.code.proofs.statements.with_one.Tie as tie
 
-enum-told : tie.Need-enum-told
-enum-told c = search needs
-
-add-t8 : tie.Need-add-t8
-add-t8 c = search needs
-
-enum-known-w : tie.Need-enum-known-w
-enum-known-w c = search needs
-
-kept-requires : tie.Need-kept-requires
-kept-requires c κs = search needs
-
-add-t9 : tie.Need-add-t9
-add-t9 c = search needs
-
-returns : tie.Need-returns
-unfolding withOne
-returns c = rw (c .enum-told .given .1) refl
-
 returns-2 : tie.Need-returns-2
 unfolding withOne
 returns-2 c =
@@ -40,5 +21,14 @@ returns-2 c =
     })
 
 pub with-one-spec : {M : Type 1} → statement M
+unfolding withOne
 with-one-spec =
-    tie.close (tie.spec enum-told add-t8 enum-known-w kept-requires add-t9 returns returns-2)
+    tie.close
+    (tie.spec
+    (λ c. search needs)
+    (λ c. search needs)
+    (λ c. search needs)
+    (λ c κs. search needs)
+    (λ c. search needs)
+    (λ c. rw (c .enum-told .given .1) refl)
+    returns-2)

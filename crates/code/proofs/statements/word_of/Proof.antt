@@ -1,217 +1,59 @@
 -- `code::statements::word_of` meets its contract. Assumes nothing.
 use borrow.Author.Needs.{needs}
-use mathlib.Core.Path.{sym, ap, _∙_}
 use Rattle.code.specs.Reader.{wordOf}
-use Rattle.terms.specs.Vocabulary.Answers.{asWord}
-use Rattle.terms.specs.Parsed.{word}
 use Rattle.code.proofs.statements.word_of.Statement.{statement}
 use Rattle.code.proofs.statements.word_of.Tie as tie
 
-enum-told : tie.Need-enum-told
-enum-told c = search needs
-
-slice-aggregate-word : tie.Need-slice-aggregate-word
-slice-aggregate-word c = search needs
-
-word-requires : tie.Need-word-requires
-word-requires c κs = search needs
-
-enum-told-2 : tie.Need-enum-told-2
-enum-told-2 c = search needs
-
-slice-aggregate-word-2 : tie.Need-slice-aggregate-word-2
-slice-aggregate-word-2 c = search needs
-
-word-requires-2 : tie.Need-word-requires-2
-word-requires-2 c κs = search needs
-
-enum-told-3 : tie.Need-enum-told-3
-enum-told-3 c = search needs
-
-slice-aggregate-word-3 : tie.Need-slice-aggregate-word-3
-slice-aggregate-word-3 c = search needs
-
-word-requires-3 : tie.Need-word-requires-3
-word-requires-3 c κs = search needs
-
-enum-told-4 : tie.Need-enum-told-4
-enum-told-4 c = search needs
-
-slice-aggregate-word-4 : tie.Need-slice-aggregate-word-4
-slice-aggregate-word-4 c = search needs
-
-word-requires-4 : tie.Need-word-requires-4
-word-requires-4 c κs = search needs
-
-enum-told-5 : tie.Need-enum-told-5
-enum-told-5 c = search needs
-
-slice-aggregate-word-5 : tie.Need-slice-aggregate-word-5
-slice-aggregate-word-5 c = search needs
-
-word-requires-5 : tie.Need-word-requires-5
-word-requires-5 c κs = search needs
-
-enum-told-6 : tie.Need-enum-told-6
-enum-told-6 c = search needs
-
-slice-aggregate-word-6 : tie.Need-slice-aggregate-word-6
-slice-aggregate-word-6 c = search needs
-
-word-requires-6 : tie.Need-word-requires-6
-word-requires-6 c κs = search needs
-
-enum-told-7 : tie.Need-enum-told-7
-enum-told-7 c = search needs
-
-slice-aggregate-word-7 : tie.Need-slice-aggregate-word-7
-slice-aggregate-word-7 c = search needs
-
-word-requires-7 : tie.Need-word-requires-7
-word-requires-7 c κs = search needs
-
-enum-told-8 : tie.Need-enum-told-8
-enum-told-8 c = search needs
-
-slice-aggregate-word-8 : tie.Need-slice-aggregate-word-8
-slice-aggregate-word-8 c = search needs
-
-word-requires-8 : tie.Need-word-requires-8
-word-requires-8 c κs = search needs
-
-enum-told-9 : tie.Need-enum-told-9
-enum-told-9 c = search needs
-
-slice-aggregate-word-9 : tie.Need-slice-aggregate-word-9
-slice-aggregate-word-9 c = search needs
-
-word-requires-9 : tie.Need-word-requires-9
-word-requires-9 c κs = search needs
-
-enum-told-10 : tie.Need-enum-told-10
-enum-told-10 c = search needs
-
-slice-aggregate-word-10 : tie.Need-slice-aggregate-word-10
-slice-aggregate-word-10 c = search needs
-
-word-requires-10 : tie.Need-word-requires-10
-word-requires-10 c κs = search needs
-
-enum-told-11 : tie.Need-enum-told-11
-enum-told-11 c = search needs
-
-slice-aggregate-word-11 : tie.Need-slice-aggregate-word-11
-slice-aggregate-word-11 c = search needs
-
-word-requires-11 : tie.Need-word-requires-11
-word-requires-11 c κs = search needs
-
-enum-told-12 : tie.Need-enum-told-12
-enum-told-12 c = search needs
-
-slice-aggregate-word-12 : tie.Need-slice-aggregate-word-12
-slice-aggregate-word-12 c = search needs
-
-word-requires-12 : tie.Need-word-requires-12
-word-requires-12 c κs = search needs
-
-returns : tie.Need-returns
-unfolding wordOf
-returns c = c .word .ensures ∙ sym (ap (λ f. asWord (word (wordOf f) (c .before .before .before .before .before .args .s .now) 0)) (c .before .before .enum-told .given .1))
-
-returns-2 : tie.Need-returns-2
-unfolding wordOf
-returns-2 c = c .word2 .ensures ∙ sym (ap (λ f. asWord (word (wordOf f) (c .before .before .before .before .before .args .s .now) 0)) (c .before .before .enum-told2 .given .1))
-
-returns-3 : tie.Need-returns-3
-unfolding wordOf
-returns-3 c = c .word3 .ensures ∙ sym (ap (λ f. asWord (word (wordOf f) (c .before .before .before .before .before .args .s .now) 0)) (c .before .before .enum-told3 .given .1))
-
-returns-4 : tie.Need-returns-4
-unfolding wordOf
-returns-4 c = c .word4 .ensures ∙ sym (ap (λ f. asWord (word (wordOf f) (c .before .before .before .before .before .args .s .now) 0)) (c .before .before .enum-told4 .given .1))
-
-returns-5 : tie.Need-returns-5
-unfolding wordOf
-returns-5 c = c .word5 .ensures ∙ sym (ap (λ f. asWord (word (wordOf f) (c .before .before .before .before .before .args .s .now) 0)) (c .before .before .enum-told5 .given .1))
-
-returns-6 : tie.Need-returns-6
-unfolding wordOf
-returns-6 c = c .word6 .ensures ∙ sym (ap (λ f. asWord (word (wordOf f) (c .before .before .before .before .before .args .s .now) 0)) (c .before .before .enum-told6 .given .1))
-
-returns-7 : tie.Need-returns-7
-unfolding wordOf
-returns-7 c = c .word7 .ensures ∙ sym (ap (λ f. asWord (word (wordOf f) (c .before .before .before .before .before .args .s .now) 0)) (c .before .before .enum-told7 .given .1))
-
-returns-8 : tie.Need-returns-8
-unfolding wordOf
-returns-8 c = c .word8 .ensures ∙ sym (ap (λ f. asWord (word (wordOf f) (c .before .before .before .before .before .args .s .now) 0)) (c .before .before .enum-told8 .given .1))
-
-returns-9 : tie.Need-returns-9
-unfolding wordOf
-returns-9 c = c .word9 .ensures ∙ sym (ap (λ f. asWord (word (wordOf f) (c .before .before .before .before .before .args .s .now) 0)) (c .before .before .enum-told9 .given .1))
-
-returns-10 : tie.Need-returns-10
-unfolding wordOf
-returns-10 c = c .word10 .ensures ∙ sym (ap (λ f. asWord (word (wordOf f) (c .before .before .before .before .before .args .s .now) 0)) (c .before .before .enum-told10 .given .1))
-
-returns-11 : tie.Need-returns-11
-unfolding wordOf
-returns-11 c = c .word11 .ensures ∙ sym (ap (λ f. asWord (word (wordOf f) (c .before .before .before .before .before .args .s .now) 0)) (c .before .before .enum-told11 .given .1))
-
-returns-12 : tie.Need-returns-12
-unfolding wordOf
-returns-12 c = c .word12 .ensures ∙ sym (ap (λ f. asWord (word (wordOf f) (c .before .before .before .before .before .args .s .now) 0)) (c .before .before .enum-told12 .given .1))
-
 pub word-of-spec : {M : Type 1} → statement M
+unfolding wordOf
 word-of-spec =
     tie.close
     (tie.spec
-    enum-told
-    slice-aggregate-word
-    word-requires
-    enum-told-2
-    slice-aggregate-word-2
-    word-requires-2
-    enum-told-3
-    slice-aggregate-word-3
-    word-requires-3
-    enum-told-4
-    slice-aggregate-word-4
-    word-requires-4
-    enum-told-5
-    slice-aggregate-word-5
-    word-requires-5
-    enum-told-6
-    slice-aggregate-word-6
-    word-requires-6
-    enum-told-7
-    slice-aggregate-word-7
-    word-requires-7
-    enum-told-8
-    slice-aggregate-word-8
-    word-requires-8
-    enum-told-9
-    slice-aggregate-word-9
-    word-requires-9
-    enum-told-10
-    slice-aggregate-word-10
-    word-requires-10
-    enum-told-11
-    slice-aggregate-word-11
-    word-requires-11
-    enum-told-12
-    slice-aggregate-word-12
-    word-requires-12
-    returns
-    returns-2
-    returns-3
-    returns-4
-    returns-5
-    returns-6
-    returns-7
-    returns-8
-    returns-9
-    returns-10
-    returns-11
-    returns-12)
+    (λ c. search needs)
+    (λ c. search needs)
+    (λ c κs. search needs)
+    (λ c. search needs)
+    (λ c. search needs)
+    (λ c κs. search needs)
+    (λ c. search needs)
+    (λ c. search needs)
+    (λ c κs. search needs)
+    (λ c. search needs)
+    (λ c. search needs)
+    (λ c κs. search needs)
+    (λ c. search needs)
+    (λ c. search needs)
+    (λ c κs. search needs)
+    (λ c. search needs)
+    (λ c. search needs)
+    (λ c κs. search needs)
+    (λ c. search needs)
+    (λ c. search needs)
+    (λ c κs. search needs)
+    (λ c. search needs)
+    (λ c. search needs)
+    (λ c κs. search needs)
+    (λ c. search needs)
+    (λ c. search needs)
+    (λ c κs. search needs)
+    (λ c. search needs)
+    (λ c. search needs)
+    (λ c κs. search needs)
+    (λ c. search needs)
+    (λ c. search needs)
+    (λ c κs. search needs)
+    (λ c. search needs)
+    (λ c. search needs)
+    (λ c κs. search needs)
+    (λ c. rw (c .before .before .enum-told .given .1) (c .word .ensures))
+    (λ c. rw (c .before .before .enum-told2 .given .1) (c .word2 .ensures))
+    (λ c. rw (c .before .before .enum-told3 .given .1) (c .word3 .ensures))
+    (λ c. rw (c .before .before .enum-told4 .given .1) (c .word4 .ensures))
+    (λ c. rw (c .before .before .enum-told5 .given .1) (c .word5 .ensures))
+    (λ c. rw (c .before .before .enum-told6 .given .1) (c .word6 .ensures))
+    (λ c. rw (c .before .before .enum-told7 .given .1) (c .word7 .ensures))
+    (λ c. rw (c .before .before .enum-told8 .given .1) (c .word8 .ensures))
+    (λ c. rw (c .before .before .enum-told9 .given .1) (c .word9 .ensures))
+    (λ c. rw (c .before .before .enum-told10 .given .1) (c .word10 .ensures))
+    (λ c. rw (c .before .before .enum-told11 .given .1) (c .word11 .ensures))
+    (λ c. rw (c .before .before .enum-told12 .given .1) (c .word12 .ensures)))

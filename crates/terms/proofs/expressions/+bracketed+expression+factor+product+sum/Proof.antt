@@ -12,7 +12,7 @@ use native.Mathlib.Omega.{arith}
 use Rattle.terms.proofs.Answers.{value-got, value-bad, operator-some, operator-none}
 use Rattle.terms.proofs.Grouping.{no-other, oneMore, onward, onward-first, onward-fail, onward-stop, onward-go, single-stop, single-go}
 use Rattle.terms.proofs.Moving.{within-text}
-use Rattle.terms.proofs.Nesting.{closed-fail, closed-go, closed-none, factor-by, opened-none, opened-some, positive, weight, weight-rank, weight-inside}
+use Rattle.terms.proofs.Nesting.{closing-bad, closing-got, closing-none, factor-by, opened-none, opened-some, positive, weight, weight-rank, weight-inside}
 use Rattle.terms.proofs.Onward.{moves-factor, moves-product, moves-sum, moves-opened, moves-expression, expression-is}
 use Rattle.terms.proofs.Series.{operator-within}
 use Rattle.terms.proofs.Starts.{star-none, star-some, star-zero, sign-zero, comparison-zero, start-within}
@@ -143,12 +143,12 @@ product-operator t c = star-some _ (sym (c .before .byte-at .ensures) ∙ c .if1
 -- the operator that `sum` found
 sum-operator : (t : ℕ) (c : sum-lts.After-o (sum-claims t) (sum-at t) sum.Post sum-Inv-loop sum-μ-loop)
     → signOf (byteAt (c .before .before .before .before .before .before .before .before .before .before .args .s .now) (c .before .before .before .before .before .p2 .given .0 .0)) ≡ some (c .o .given .0 .0)
-sum-operator t c = operator-some _ _ (sym (c .before .before .sign-at .ensures) ∙ c .o .given .1)
+sum-operator t c = operator-some (c .before .before .sign-at .ensures) (c .o .given .1)
 
 -- the operator that `expression` found, where none was found before
 expression-found : (t : ℕ) (c : expression-lts.After-o (expression-claims t) (expression-at t) expression.Post expression-Inv-loop expression-μ-loop)
     → noOther (c .before .before .before .before .before .before .before .before .loop .by) (comparisonOf (byteAt (c .before .before .before .before .before .before .before .before .before .before .args .s .now) (c .before .before .before .before .before .p2 .given .0 .0))) ≡ some (c .o .given .0 .0)
-expression-found t c = operator-some _ _ (sym (c .before .before .comparison-after .ensures) ∙ c .o .given .1)
+expression-found t c = operator-some (c .before .before .comparison-after .ensures) (c .o .given .1)
 
 expression-operator : (t : ℕ) (c : expression-lts.After-o (expression-claims t) (expression-at t) expression.Post expression-Inv-loop expression-μ-loop)
     → comparisonOf (byteAt (c .before .before .before .before .before .before .before .before .before .before .args .s .now) (c .before .before .before .before .before .p2 .given .0 .0)) ≡ some (c .o .given .0 .0)
@@ -189,21 +189,15 @@ bracketed-add-t18 t c =
 
 bracketed-returns-2 : (t : ℕ) → bracketed-lts.Need-returns-2 (bracketed-claims t) (bracketed-at t) bracketed.Post
 unfolding asValue
-bracketed-returns-2 t c =
-    let s = c .before .before .before .before .before .before in
-    sym (ap asValue (opened-some _ _ _ _ _ (c .before .before .before .before .if1 .left) ∙ closed-fail (s .args .close) (s .args .s .now) _ _ (value-bad _ _ (sym (c .before .before .before .expression .ensures) ∙ c .before .p .given .1))))
+bracketed-returns-2 t c = closing-bad asValue _ _ (opened-some _ _ _ _ _ (c .before .before .before .before .if1 .left)) (value-bad (c .before .before .before .expression .ensures) (c .before .p .given .1))
 
 bracketed-returns-3 : (t : ℕ) → bracketed-lts.Need-returns-3 (bracketed-claims t) (bracketed-at t) bracketed.Post
 unfolding asValue
-bracketed-returns-3 t c =
-    let s = c .before .before .before .before .before .before .before .before in
-    sym (ap asValue (opened-some _ _ _ _ _ (c .before .before .before .before .before .before .if1 .left) ∙ closed-go (s .args .close) (s .args .s .now) _ _ _ (value-got _ _ _ (sym (c .before .before .before .before .before .expression .ensures) ∙ c .before .before .before .p2 .given .1)) (sym (c .before .byte-at .ensures) ∙ c .if2 .taken)))
+bracketed-returns-3 t c = closing-got asValue _ _ (opened-some _ _ _ _ _ (c .before .before .before .before .before .before .if1 .left)) (value-got (c .before .before .before .before .before .expression .ensures) (c .before .before .before .p2 .given .1)) (c .before .byte-at .ensures) (c .if2 .taken)
 
 bracketed-returns-4 : (t : ℕ) → bracketed-lts.Need-returns-4 (bracketed-claims t) (bracketed-at t) bracketed.Post
 unfolding asValue
-bracketed-returns-4 t c =
-    let s = c .before .before .before .before .before .before .before .before in
-    sym (ap asValue (opened-some _ _ _ _ _ (c .before .before .before .before .before .before .if1 .left) ∙ closed-none (s .args .close) (s .args .s .now) _ _ _ (value-got _ _ _ (sym (c .before .before .before .before .before .expression .ensures) ∙ c .before .before .before .p2 .given .1)) (λ e. c .if2 .left (c .before .byte-at .ensures ∙ e))))
+bracketed-returns-4 t c = closing-none asValue _ _ (opened-some _ _ _ _ _ (c .before .before .before .before .before .before .if1 .left)) (value-got (c .before .before .before .before .before .expression .ensures) (c .before .before .before .p2 .given .1)) (c .before .byte-at .ensures) (c .if2 .left)
 
 factor-start-at-requires : (t : ℕ) → factor-lts.Need-start-at-requires (factor-claims t) (factor-at t) factor.Post
 factor-start-at-requires t c κs = search needs
@@ -301,7 +295,7 @@ unfolding asValue
 product-returns t c =
     let s = c .before .before .before .before .before .before in
     let l = c .before .before .before .before .loop in
-    sym (ap asValue (l .inv .1 ∙ onward-fail starOf (s .args .s .now) _ (l .by) (l .value) (l .begin) _ _ (value-bad _ _ (sym (c .before .before .before .factor .ensures) ∙ c .before .p .given .1))))
+    sym (ap asValue (l .inv .1 ∙ onward-fail starOf (s .args .s .now) _ (l .by) (l .value) (l .begin) _ _ (value-bad (c .before .before .before .factor .ensures) (c .before .p .given .1))))
 
 product-enum-known-p-2 : (t : ℕ) → product-lts.Need-enum-known-p-2 (product-claims t) (product-at t) product.Post product-Inv-loop product-μ-loop
 product-enum-known-p-2 t c = search needs
@@ -317,7 +311,7 @@ unfolding asValue
 product-returns-2 t c =
     let s = c .before .before .before .before .before .before .before .before .before in
     let l = c .before .before .before .before .before .before .before .loop in
-    sym (ap asValue (l .inv .1 ∙ onward-stop starOf (s .args .s .now) _ (l .by) (l .value) (l .begin) _ _ _ (value-got _ _ _ (sym (c .before .before .before .before .before .before .factor .ensures) ∙ c .before .before .before .before .p2 .given .1)) (c .before .before .grouped .ensures) _ (star-none _ (λ e. c .if1 .taken (c .before .byte-at .ensures ∙ e)))))
+    sym (ap asValue (l .inv .1 ∙ onward-stop starOf (s .args .s .now) _ (l .by) (l .value) (l .begin) _ _ _ (value-got (c .before .before .before .before .before .before .factor .ensures) (c .before .before .before .before .p2 .given .1)) (c .before .before .grouped .ensures) _ (star-none _ (λ e. c .if1 .taken (c .before .byte-at .ensures ∙ e)))))
 
 product-add-begin : (t : ℕ) → product-lts.Need-add-begin (product-claims t) (product-at t) product.Post product-Inv-loop product-μ-loop
 product-add-begin t c =
@@ -330,7 +324,7 @@ product-loop-less t c =
     let s = c .before .before .before .before .before .before .before .before .before in
     let l = c .before .before .before .before .before .before .before .loop in
     let w = operator-within starOf star-zero (s .args .s .now) (c .before .before .before .before .p2 .given .0 .0) _ (product-operator t c) in
-    let m = moves-factor _ _ _ _ (moves-opened _ _ _ (moves-expression _ _ _) _) _ _ _ (value-got _ _ _ (sym (c .before .before .before .before .before .before .factor .ensures) ∙ c .before .before .before .before .p2 .given .1)) in
+    let m = moves-factor _ _ _ _ (moves-opened _ _ _ (moves-expression _ _ _) _) _ _ _ (value-got (c .before .before .before .before .before .before .factor .ensures) (c .before .before .before .before .p2 .given .1)) in
     omega arith
 
 product-loop-again : (t : ℕ) → product-lts.Need-loop-again (product-claims t) (product-at t) product.Post product-Inv-loop product-μ-loop
@@ -338,9 +332,9 @@ product-loop-again t c =
     let s = c .before .before .before .before .before .before .before .before .before in
     let l = c .before .before .before .before .before .before .before .loop in
     let w = operator-within starOf star-zero (s .args .s .now) (c .before .before .before .before .p2 .given .0 .0) _ (product-operator t c) in
-    let m = moves-factor _ _ _ _ (moves-opened _ _ _ (moves-expression _ _ _) _) _ _ _ (value-got _ _ _ (sym (c .before .before .before .before .before .before .factor .ensures) ∙ c .before .before .before .before .p2 .given .1)) in
+    let m = moves-factor _ _ _ _ (moves-opened _ _ _ (moves-expression _ _ _) _) _ _ _ (value-got (c .before .before .before .before .before .before .factor .ensures) (c .before .before .before .before .p2 .given .1)) in
     let i = l .inv .0 in
-    (omega arith, l .inv .1 ∙ onward-go starOf (s .args .s .now) _ (l .by) (l .value) (l .begin) _ _ _ (value-got _ _ _ (sym (c .before .before .before .before .before .before .factor .ensures) ∙ c .before .before .before .before .p2 .given .1)) (c .before .before .grouped .ensures) _ (product-operator t c) (moves-factor _ _ _ _ (moves-opened _ _ _ (moves-expression _ _ _) _)) star-zero w)
+    (omega arith, l .inv .1 ∙ onward-go starOf (s .args .s .now) _ (l .by) (l .value) (l .begin) _ _ _ (value-got (c .before .before .before .before .before .before .factor .ensures) (c .before .before .before .before .p2 .given .1)) (c .before .before .grouped .ensures) _ (product-operator t c) (moves-factor _ _ _ _ (moves-opened _ _ _ (moves-expression _ _ _) _)) star-zero w)
 
 sum-loop-holds : (t : ℕ) → sum-lts.Need-loop-holds (sum-claims t) (sum-at t) sum.Post sum-Inv-loop sum-μ-loop
 unfolding sumOf
@@ -361,7 +355,7 @@ unfolding asValue
 sum-returns t c =
     let s = c .before .before .before .before .before .before in
     let l = c .before .before .before .before .loop in
-    sym (ap asValue (l .inv .1 ∙ onward-fail signOf (s .args .s .now) _ (l .by) (l .value) (l .begin) _ _ (value-bad _ _ (sym (c .before .before .before .product .ensures) ∙ c .before .p .given .1))))
+    sym (ap asValue (l .inv .1 ∙ onward-fail signOf (s .args .s .now) _ (l .by) (l .value) (l .begin) _ _ (value-bad (c .before .before .before .product .ensures) (c .before .p .given .1))))
 
 sum-enum-known-p-2 : (t : ℕ) → sum-lts.Need-enum-known-p-2 (sum-claims t) (sum-at t) sum.Post sum-Inv-loop sum-μ-loop
 sum-enum-known-p-2 t c = search needs
@@ -380,7 +374,7 @@ unfolding asValue
 sum-returns-2 t c =
     let s = c .before .before .before .before .before .before .before .before .before .before in
     let l = c .before .before .before .before .before .before .before .before .loop in
-    sym (ap asValue (l .inv .1 ∙ onward-stop signOf (s .args .s .now) _ (l .by) (l .value) (l .begin) _ _ _ (value-got _ _ _ (sym (c .before .before .before .before .before .before .before .product .ensures) ∙ c .before .before .before .before .before .p2 .given .1)) (c .before .before .before .grouped .ensures) _ (operator-none _ (sym (c .before .before .sign-at .ensures) ∙ c .enum-told .given .1))))
+    sym (ap asValue (l .inv .1 ∙ onward-stop signOf (s .args .s .now) _ (l .by) (l .value) (l .begin) _ _ _ (value-got (c .before .before .before .before .before .before .before .product .ensures) (c .before .before .before .before .before .p2 .given .1)) (c .before .before .before .grouped .ensures) _ (operator-none (c .before .before .sign-at .ensures) (c .enum-told .given .1))))
 
 sum-enum-known-o : (t : ℕ) → sum-lts.Need-enum-known-o (sum-claims t) (sum-at t) sum.Post sum-Inv-loop sum-μ-loop
 sum-enum-known-o t c = search needs
@@ -396,7 +390,7 @@ sum-loop-less t c =
     let s = c .before .before .before .before .before .before .before .before .before .before .before in
     let l = c .before .before .before .before .before .before .before .before .before .loop in
     let w = operator-within signOf sign-zero (s .args .s .now) (c .before .before .before .before .before .before .p2 .given .0 .0) _ (sum-operator t (c .before)) in
-    let m = moves-product _ _ _ _ (moves-opened _ _ _ (moves-expression _ _ _) _) _ _ _ (value-got _ _ _ (sym (c .before .before .before .before .before .before .before .before .product .ensures) ∙ c .before .before .before .before .before .before .p2 .given .1)) in
+    let m = moves-product _ _ _ _ (moves-opened _ _ _ (moves-expression _ _ _) _) _ _ _ (value-got (c .before .before .before .before .before .before .before .before .product .ensures) (c .before .before .before .before .before .before .p2 .given .1)) in
     omega arith
 
 sum-loop-again : (t : ℕ) → sum-lts.Need-loop-again (sum-claims t) (sum-at t) sum.Post sum-Inv-loop sum-μ-loop
@@ -404,9 +398,9 @@ sum-loop-again t c =
     let s = c .before .before .before .before .before .before .before .before .before .before .before in
     let l = c .before .before .before .before .before .before .before .before .before .loop in
     let w = operator-within signOf sign-zero (s .args .s .now) (c .before .before .before .before .before .before .p2 .given .0 .0) _ (sum-operator t (c .before)) in
-    let m = moves-product _ _ _ _ (moves-opened _ _ _ (moves-expression _ _ _) _) _ _ _ (value-got _ _ _ (sym (c .before .before .before .before .before .before .before .before .product .ensures) ∙ c .before .before .before .before .before .before .p2 .given .1)) in
+    let m = moves-product _ _ _ _ (moves-opened _ _ _ (moves-expression _ _ _) _) _ _ _ (value-got (c .before .before .before .before .before .before .before .before .product .ensures) (c .before .before .before .before .before .before .p2 .given .1)) in
     let i = l .inv .0 in
-    (omega arith, l .inv .1 ∙ onward-go signOf (s .args .s .now) _ (l .by) (l .value) (l .begin) _ _ _ (value-got _ _ _ (sym (c .before .before .before .before .before .before .before .before .product .ensures) ∙ c .before .before .before .before .before .before .p2 .given .1)) (c .before .before .before .before .grouped .ensures) _ (sum-operator t (c .before)) (moves-product _ _ _ _ (moves-opened _ _ _ (moves-expression _ _ _) _)) sign-zero w)
+    (omega arith, l .inv .1 ∙ onward-go signOf (s .args .s .now) _ (l .by) (l .value) (l .begin) _ _ _ (value-got (c .before .before .before .before .before .before .before .before .product .ensures) (c .before .before .before .before .before .before .p2 .given .1)) (c .before .before .before .before .grouped .ensures) _ (sum-operator t (c .before)) (moves-product _ _ _ _ (moves-opened _ _ _ (moves-expression _ _ _) _)) sign-zero w)
 
 expression-loop-holds : (t : ℕ) → expression-lts.Need-loop-holds (expression-claims t) (expression-at t) expression.Post expression-Inv-loop expression-μ-loop
 unfolding comparing
@@ -427,7 +421,7 @@ unfolding asValue
 expression-returns t c =
     let s = c .before .before .before .before .before .before in
     let l = c .before .before .before .before .loop in
-    sym (ap asValue (l .inv .1 ∙ onward-fail comparisonOf (s .args .s .now) _ (l .by) (l .value) (l .begin) _ _ (value-bad _ _ (sym (c .before .before .before .sum .ensures) ∙ c .before .p .given .1))))
+    sym (ap asValue (l .inv .1 ∙ onward-fail comparisonOf (s .args .s .now) _ (l .by) (l .value) (l .begin) _ _ (value-bad (c .before .before .before .sum .ensures) (c .before .p .given .1))))
 
 expression-enum-known-p-2 : (t : ℕ) → expression-lts.Need-enum-known-p-2 (expression-claims t) (expression-at t) expression.Post expression-Inv-loop expression-μ-loop
 expression-enum-known-p-2 t c = search needs
@@ -446,7 +440,7 @@ unfolding asValue
 expression-returns-2 t c =
     let s = c .before .before .before .before .before .before .before .before .before .before in
     let l = c .before .before .before .before .before .before .before .before .loop in
-    sym (ap asValue (l .inv .1 ∙ single-stop comparisonOf (s .args .s .now) _ (l .by) (l .value) (l .begin) _ _ _ (value-got _ _ _ (sym (c .before .before .before .before .before .before .before .sum .ensures) ∙ c .before .before .before .before .before .p2 .given .1)) (c .before .before .before .grouped .ensures) (operator-none _ (sym (c .before .before .comparison-after .ensures) ∙ c .enum-told .given .1))))
+    sym (ap asValue (l .inv .1 ∙ single-stop comparisonOf (s .args .s .now) _ (l .by) (l .value) (l .begin) _ _ _ (value-got (c .before .before .before .before .before .before .before .sum .ensures) (c .before .before .before .before .before .p2 .given .1)) (c .before .before .before .grouped .ensures) (operator-none (c .before .before .comparison-after .ensures) (c .enum-told .given .1))))
 
 expression-enum-known-o : (t : ℕ) → expression-lts.Need-enum-known-o (expression-claims t) (expression-at t) expression.Post expression-Inv-loop expression-μ-loop
 expression-enum-known-o t c = search needs
@@ -462,16 +456,16 @@ expression-loop-less t c =
     let s = c .before .before .before .before .before .before .before .before .before .before .before in
     let l = c .before .before .before .before .before .before .before .before .before .loop in
     let w = operator-within comparisonOf comparison-zero (s .args .s .now) (c .before .before .before .before .before .before .p2 .given .0 .0) _ (expression-operator t (c .before)) in
-    let m = moves-sum _ _ _ _ (moves-opened _ _ _ (moves-expression _ _ _) _) _ _ _ (value-got _ _ _ (sym (c .before .before .before .before .before .before .before .before .sum .ensures) ∙ c .before .before .before .before .before .before .p2 .given .1)) in
+    let m = moves-sum _ _ _ _ (moves-opened _ _ _ (moves-expression _ _ _) _) _ _ _ (value-got (c .before .before .before .before .before .before .before .before .sum .ensures) (c .before .before .before .before .before .before .p2 .given .1)) in
     omega arith
 
 expression-loop-again : (t : ℕ) → expression-lts.Need-loop-again (expression-claims t) (expression-at t) expression.Post expression-Inv-loop expression-μ-loop
 expression-loop-again t c =
     let s = c .before .before .before .before .before .before .before .before .before .before .before in
     let l = c .before .before .before .before .before .before .before .before .before .loop in
-    let m = moves-sum _ _ _ _ (moves-opened _ _ _ (moves-expression _ _ _) _) _ _ _ (value-got _ _ _ (sym (c .before .before .before .before .before .before .before .before .sum .ensures) ∙ c .before .before .before .before .before .before .p2 .given .1)) in
+    let m = moves-sum _ _ _ _ (moves-opened _ _ _ (moves-expression _ _ _) _) _ _ _ (value-got (c .before .before .before .before .before .before .before .before .sum .ensures) (c .before .before .before .before .before .before .p2 .given .1)) in
     let i = l .inv .0 in
-    (omega arith, l .inv .1 ∙ single-go comparisonOf (s .args .s .now) _ (l .by) (l .value) (l .begin) _ _ _ (value-got _ _ _ (sym (c .before .before .before .before .before .before .before .before .sum .ensures) ∙ c .before .before .before .before .before .before .p2 .given .1)) (c .before .before .before .before .grouped .ensures) _ (expression-found t (c .before)))
+    (omega arith, l .inv .1 ∙ single-go comparisonOf (s .args .s .now) _ (l .by) (l .value) (l .begin) _ _ _ (value-got (c .before .before .before .before .before .before .before .before .sum .ensures) (c .before .before .before .before .before .before .p2 .given .1)) (c .before .before .before .before .grouped .ensures) _ (expression-found t (c .before)))
 
 pub +bracketed+expression+factor+product+sum-spec : {M : Type 1} → statement M
 +bracketed+expression+factor+product+sum-spec =

@@ -24,10 +24,10 @@ returns : tie.Need-returns
 returns c =
     let x = c .before .before .p .given in
     ap (λ z. Got (x .0 .0) (Value z)) (handed _ _ (c .held .ok) (c .held .ensures))
-    ∙ answer-got _ _ _ _ (variable-got _ _ _ (sym (c .before .before .before .before .variable .ensures) ∙ x .1))
+    ∙ answer-got _ _ _ _ (variable-got (c .before .before .before .before .variable .ensures) (x .1))
 
 returns-2 : tie.Need-returns-2
-returns-2 c = answer-bad _ _ _ (variable-bad _ _ (sym (c .before .before .before .variable .ensures) ∙ c .before .p2 .given .1))
+returns-2 c = answer-bad _ _ _ (variable-bad (c .before .before .before .variable .ensures) (c .before .p2 .given .1))
 
 pub variable-spec : {M : Type 1} → statement M
 variable-spec =

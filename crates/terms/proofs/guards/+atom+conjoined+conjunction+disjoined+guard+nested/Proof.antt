@@ -10,7 +10,7 @@ use mathlib.Core.Path.{_≡_, refl, sym, ap, _∙_}
 use native.Mathlib.Omega.{arith}
 use Rattle.terms.proofs.Answers.{value-got, value-bad}
 use Rattle.terms.proofs.Moving.{within-text}
-use Rattle.terms.proofs.Nesting.{closed-fail, closed-go, closed-none, opened-none, opened-some, positive, weight, weight-rank, weight-on, weight-inside}
+use Rattle.terms.proofs.Nesting.{closing-bad, closing-got, closing-none, opened-none, opened-some, positive, weight, weight-rank, weight-on, weight-inside}
 use Rattle.terms.proofs.Onward.{moves-opened, moves-expression, moves-atom, moves-conjunction, moves-guard, guard-is, atom-by}
 use Rattle.terms.proofs.Series.{operator-within, series-go, series-fail, joined-stop, joined-go, joined-fail}
 use Rattle.terms.proofs.Starts.{ampersand-zero, ampersand-none, ampersand-some, bar-zero, bar-none, bar-some, atom-within}
@@ -244,7 +244,7 @@ conjoined-returns t c =
     let w = operator-within ampersand ampersand-zero (s .args .s .now) (l .end) _ (conjoined-operator t (c .before .before .before .before)) in
     sym (ap asValue (l .inv .1 ∙ joined-fail ampersand joined (s .args .s .now) _ (l .end) (l .value) _ (conjoined-operator t (c .before .before .before .before)) _
     (moves-atom _ _ _ _ _ (moves-opened _ _ _ (moves-expression _ _ _) _) _ (moves-opened _ _ _ (moves-guard _ _ _ _) _)) ampersand-zero w
-    (value-bad _ _ (sym (c .before .before .before .atom .ensures) ∙ c .before .p .given .1))))
+    (value-bad (c .before .before .before .atom .ensures) (c .before .p .given .1))))
 
 conjoined-enum-known-p-2 : (t : ℕ) → conjoined-lts.Need-enum-known-p-2 (conjoined-claims t) (conjoined-at t) conjoined.Post conjoined-Inv-loop conjoined-μ-loop
 conjoined-enum-known-p-2 t c = search needs
@@ -257,7 +257,7 @@ conjoined-loop-less t c =
     let s = c .before .before .before .before .before .before .before .before .before in
     let l = c .before .before .before .before .before .before .before .loop in
     let w = operator-within ampersand ampersand-zero (s .args .s .now) (l .end) _ (conjoined-operator t (c .before .before .before .before .before)) in
-    let m = moves-atom _ _ _ _ _ (moves-opened _ _ _ (moves-expression _ _ _) _) _ (moves-opened _ _ _ (moves-guard _ _ _ _) _) _ _ _ (value-got _ _ _ (sym (c .before .before .before .before .atom .ensures) ∙ c .before .before .p2 .given .1)) in
+    let m = moves-atom _ _ _ _ _ (moves-opened _ _ _ (moves-expression _ _ _) _) _ (moves-opened _ _ _ (moves-guard _ _ _ _) _) _ _ _ (value-got (c .before .before .before .before .atom .ensures) (c .before .before .p2 .given .1)) in
     omega arith
 
 conjoined-loop-again : (t : ℕ) → conjoined-lts.Need-loop-again (conjoined-claims t) (conjoined-at t) conjoined.Post conjoined-Inv-loop conjoined-μ-loop
@@ -265,12 +265,12 @@ conjoined-loop-again t c =
     let s = c .before .before .before .before .before .before .before .before .before in
     let l = c .before .before .before .before .before .before .before .loop in
     let w = operator-within ampersand ampersand-zero (s .args .s .now) (l .end) _ (conjoined-operator t (c .before .before .before .before .before)) in
-    let m = moves-atom _ _ _ _ _ (moves-opened _ _ _ (moves-expression _ _ _) _) _ (moves-opened _ _ _ (moves-guard _ _ _ _) _) _ _ _ (value-got _ _ _ (sym (c .before .before .before .before .atom .ensures) ∙ c .before .before .p2 .given .1)) in
+    let m = moves-atom _ _ _ _ _ (moves-opened _ _ _ (moves-expression _ _ _) _) _ (moves-opened _ _ _ (moves-guard _ _ _ _) _) _ _ _ (value-got (c .before .before .before .before .atom .ensures) (c .before .before .p2 .given .1)) in
     let i = l .inv .0 in (
       omega arith,
       l .inv .1
           ∙ joined-go ampersand joined (s .args .s .now) _ (l .end) (l .value) _ (conjoined-operator t (c .before .before .before .before .before)) _
-          (moves-atom _ _ _ _ _ (moves-opened _ _ _ (moves-expression _ _ _) _) _ (moves-opened _ _ _ (moves-guard _ _ _ _) _)) ampersand-zero w _ (value-got _ _ _ (sym (c .before .before .before .before .atom .ensures) ∙ c .before .before .p2 .given .1))
+          (moves-atom _ _ _ _ _ (moves-opened _ _ _ (moves-expression _ _ _) _) _ (moves-opened _ _ _ (moves-guard _ _ _ _) _)) ampersand-zero w _ (value-got (c .before .before .before .before .atom .ensures) (c .before .before .p2 .given .1))
           ∙ ap (λ v. conjoinedRead (now (s .args .cells)) (s .args .around) (s .args .s .now) (s .args .left) (c .before .before .p2 .given .0 .0) v) (sym (c .joined .ensures)),
     )
 
@@ -296,7 +296,7 @@ conjunction-enum-known-p-2 t c = search needs
 conjunction-conjoined-requires : (t : ℕ) → conjunction-lts.Need-conjoined-requires (conjunction-claims t) (conjunction-at t) conjunction.Post
 conjunction-conjoined-requires t c κs =
     let s = c .before .before .before .before .before in
-    let m = moves-atom _ _ _ _ _ (moves-opened _ _ _ (moves-expression _ _ _) _) _ (moves-opened _ _ _ (moves-guard _ _ _ _) _) _ _ _ (value-got _ _ _ (sym (c .before .before .before .atom .ensures) ∙ c .before .p2 .given .1)) in
+    let m = moves-atom _ _ _ _ _ (moves-opened _ _ _ (moves-expression _ _ _) _) _ (moves-opened _ _ _ (moves-guard _ _ _ _) _) _ _ _ (value-got (c .before .before .before .atom .ensures) (c .before .p2 .given .1)) in
     let e = s .pre .0 in
     (omega (arith, weight-rank (length (s .args .s .now)) (s .args .left) (s .args .at) (c .before .p2 .given .0 .0) 2 3 (omega arith) (omega arith)), tt)
 
@@ -304,14 +304,14 @@ conjunction-returns : (t : ℕ) → conjunction-lts.Need-returns (conjunction-cl
 unfolding asValue conjunctionOf
 conjunction-returns t c =
     let s = c .before .before .before .before .before in
-    sym (ap asValue (series-fail ampersand joined (s .args .s .now) _ (length (s .args .s .now)) (s .args .at) _ (value-bad _ _ (sym (c .before .before .before .atom .ensures) ∙ c .before .p .given .1))))
+    sym (ap asValue (series-fail ampersand joined (s .args .s .now) _ (length (s .args .s .now)) (s .args .at) _ (value-bad (c .before .before .before .atom .ensures) (c .before .p .given .1))))
 
 conjunction-returns-2 : (t : ℕ) → conjunction-lts.Need-returns-2 (conjunction-claims t) (conjunction-at t) conjunction.Post
 unfolding conjunctionOf
 conjunction-returns-2 t c =
     let s = c .before .before .before .before .before .before in
     c .conjoined .ensures
-    ∙ sym (ap asValue (series-go ampersand joined (s .args .s .now) _ (length (s .args .s .now)) (s .args .at) _ _ (value-got _ _ _ (sym (c .before .before .before .before .atom .ensures) ∙ c .before .before .p2 .given .1))))
+    ∙ sym (ap asValue (series-go ampersand joined (s .args .s .now) _ (length (s .args .s .now)) (s .args .at) _ _ (value-got (c .before .before .before .before .atom .ensures) (c .before .before .p2 .given .1))))
 
 disjoined-loop-holds : (t : ℕ) → disjoined-lts.Need-loop-holds (disjoined-claims t) (disjoined-at t) disjoined.Post disjoined-Inv-loop disjoined-μ-loop
 disjoined-loop-holds t c = (omega arith, refl)
@@ -346,7 +346,7 @@ disjoined-returns t c =
     let w = operator-within bar bar-zero (s .args .s .now) (l .end) _ (disjoined-operator t (c .before .before .before .before)) in
     sym (ap asValue (l .inv .1 ∙ joined-fail bar joined (s .args .s .now) _ (l .end) (l .value) _ (disjoined-operator t (c .before .before .before .before)) _
     (moves-conjunction _ _ _ _ _ (moves-opened _ _ _ (moves-expression _ _ _) _) _ (moves-opened _ _ _ (moves-guard _ _ _ _) _)) bar-zero w
-    (value-bad _ _ (sym (c .before .before .before .conjunction .ensures) ∙ c .before .p .given .1))))
+    (value-bad (c .before .before .before .conjunction .ensures) (c .before .p .given .1))))
 
 disjoined-enum-known-p-2 : (t : ℕ) → disjoined-lts.Need-enum-known-p-2 (disjoined-claims t) (disjoined-at t) disjoined.Post disjoined-Inv-loop disjoined-μ-loop
 disjoined-enum-known-p-2 t c = search needs
@@ -359,7 +359,7 @@ disjoined-loop-less t c =
     let s = c .before .before .before .before .before .before .before .before .before in
     let l = c .before .before .before .before .before .before .before .loop in
     let w = operator-within bar bar-zero (s .args .s .now) (l .end) _ (disjoined-operator t (c .before .before .before .before .before)) in
-    let m = moves-conjunction _ _ _ _ _ (moves-opened _ _ _ (moves-expression _ _ _) _) _ (moves-opened _ _ _ (moves-guard _ _ _ _) _) _ _ _ (value-got _ _ _ (sym (c .before .before .before .before .conjunction .ensures) ∙ c .before .before .p2 .given .1)) in
+    let m = moves-conjunction _ _ _ _ _ (moves-opened _ _ _ (moves-expression _ _ _) _) _ (moves-opened _ _ _ (moves-guard _ _ _ _) _) _ _ _ (value-got (c .before .before .before .before .conjunction .ensures) (c .before .before .p2 .given .1)) in
     omega arith
 
 disjoined-loop-again : (t : ℕ) → disjoined-lts.Need-loop-again (disjoined-claims t) (disjoined-at t) disjoined.Post disjoined-Inv-loop disjoined-μ-loop
@@ -367,12 +367,12 @@ disjoined-loop-again t c =
     let s = c .before .before .before .before .before .before .before .before .before in
     let l = c .before .before .before .before .before .before .before .loop in
     let w = operator-within bar bar-zero (s .args .s .now) (l .end) _ (disjoined-operator t (c .before .before .before .before .before)) in
-    let m = moves-conjunction _ _ _ _ _ (moves-opened _ _ _ (moves-expression _ _ _) _) _ (moves-opened _ _ _ (moves-guard _ _ _ _) _) _ _ _ (value-got _ _ _ (sym (c .before .before .before .before .conjunction .ensures) ∙ c .before .before .p2 .given .1)) in
+    let m = moves-conjunction _ _ _ _ _ (moves-opened _ _ _ (moves-expression _ _ _) _) _ (moves-opened _ _ _ (moves-guard _ _ _ _) _) _ _ _ (value-got (c .before .before .before .before .conjunction .ensures) (c .before .before .p2 .given .1)) in
     let i = l .inv .0 in (
       omega arith,
       l .inv .1
           ∙ joined-go bar joined (s .args .s .now) _ (l .end) (l .value) _ (disjoined-operator t (c .before .before .before .before .before)) _
-          (moves-conjunction _ _ _ _ _ (moves-opened _ _ _ (moves-expression _ _ _) _) _ (moves-opened _ _ _ (moves-guard _ _ _ _) _)) bar-zero w _ (value-got _ _ _ (sym (c .before .before .before .before .conjunction .ensures) ∙ c .before .before .p2 .given .1))
+          (moves-conjunction _ _ _ _ _ (moves-opened _ _ _ (moves-expression _ _ _) _) _ (moves-opened _ _ _ (moves-guard _ _ _ _) _)) bar-zero w _ (value-got (c .before .before .before .before .conjunction .ensures) (c .before .before .p2 .given .1))
           ∙ ap (λ v. disjoinedRead (now (s .args .cells)) (s .args .around) (s .args .s .now) (s .args .left) (c .before .before .p2 .given .0 .0) v) (sym (c .joined .ensures)),
     )
 
@@ -398,7 +398,7 @@ guard-enum-known-p-2 t c = search needs
 guard-disjoined-requires : (t : ℕ) → guard-lts.Need-disjoined-requires (guard-claims t) (guard-at t) guard.Post
 guard-disjoined-requires t c κs =
     let s = c .before .before .before .before .before in
-    let m = moves-conjunction _ _ _ _ _ (moves-opened _ _ _ (moves-expression _ _ _) _) _ (moves-opened _ _ _ (moves-guard _ _ _ _) _) _ _ _ (value-got _ _ _ (sym (c .before .before .before .conjunction .ensures) ∙ c .before .p2 .given .1)) in
+    let m = moves-conjunction _ _ _ _ _ (moves-opened _ _ _ (moves-expression _ _ _) _) _ (moves-opened _ _ _ (moves-guard _ _ _ _) _) _ _ _ (value-got (c .before .before .before .conjunction .ensures) (c .before .p2 .given .1)) in
     let e = s .pre .0 in
     (omega (arith, weight-rank (length (s .args .s .now)) (s .args .left) (s .args .at) (c .before .p2 .given .0 .0) 4 5 (omega arith) (omega arith)), tt)
 
@@ -406,14 +406,14 @@ guard-returns : (t : ℕ) → guard-lts.Need-returns (guard-claims t) (guard-at 
 unfolding asValue disjunction
 guard-returns t c =
     let s = c .before .before .before .before .before in
-    sym (ap asValue (guard-is _ _ _ _ _ _ ∙ series-fail bar joined (s .args .s .now) _ (length (s .args .s .now)) (s .args .at) _ (value-bad _ _ (sym (c .before .before .before .conjunction .ensures) ∙ c .before .p .given .1))))
+    sym (ap asValue (guard-is _ _ _ _ _ _ ∙ series-fail bar joined (s .args .s .now) _ (length (s .args .s .now)) (s .args .at) _ (value-bad (c .before .before .before .conjunction .ensures) (c .before .p .given .1))))
 
 guard-returns-2 : (t : ℕ) → guard-lts.Need-returns-2 (guard-claims t) (guard-at t) guard.Post
 unfolding disjunction
 guard-returns-2 t c =
     let s = c .before .before .before .before .before .before in
     c .disjoined .ensures
-    ∙ sym (ap asValue (guard-is _ _ _ _ _ _ ∙ series-go bar joined (s .args .s .now) _ (length (s .args .s .now)) (s .args .at) _ _ (value-got _ _ _ (sym (c .before .before .before .before .conjunction .ensures) ∙ c .before .before .p2 .given .1))))
+    ∙ sym (ap asValue (guard-is _ _ _ _ _ _ ∙ series-go bar joined (s .args .s .now) _ (length (s .args .s .now)) (s .args .at) _ _ (value-got (c .before .before .before .before .conjunction .ensures) (c .before .before .p2 .given .1))))
 
 nested-returns : (t : ℕ) → nested-lts.Need-returns (nested-claims t) (nested-at t) nested.Post
 unfolding asValue
@@ -450,21 +450,15 @@ nested-add-t17 t c =
 
 nested-returns-2 : (t : ℕ) → nested-lts.Need-returns-2 (nested-claims t) (nested-at t) nested.Post
 unfolding asValue
-nested-returns-2 t c =
-    let s = c .before .before .before .before .before .before in
-    sym (ap asValue (opened-some _ _ _ _ _ (c .before .before .before .before .if1 .left) ∙ closed-fail 41 (s .args .s .now) _ _ (value-bad _ _ (sym (c .before .before .before .guard .ensures) ∙ c .before .p .given .1))))
+nested-returns-2 t c = closing-bad asValue _ _ (opened-some _ _ _ _ _ (c .before .before .before .before .if1 .left)) (value-bad (c .before .before .before .guard .ensures) (c .before .p .given .1))
 
 nested-returns-3 : (t : ℕ) → nested-lts.Need-returns-3 (nested-claims t) (nested-at t) nested.Post
 unfolding asValue
-nested-returns-3 t c =
-    let s = c .before .before .before .before .before .before .before .before in
-    sym (ap asValue (opened-some _ _ _ _ _ (c .before .before .before .before .before .before .if1 .left) ∙ closed-go 41 (s .args .s .now) _ _ _ (value-got _ _ _ (sym (c .before .before .before .before .before .guard .ensures) ∙ c .before .before .before .p2 .given .1)) (sym (c .before .byte-at .ensures) ∙ c .if2 .taken)))
+nested-returns-3 t c = closing-got asValue _ _ (opened-some _ _ _ _ _ (c .before .before .before .before .before .before .if1 .left)) (value-got (c .before .before .before .before .before .guard .ensures) (c .before .before .before .p2 .given .1)) (c .before .byte-at .ensures) (c .if2 .taken)
 
 nested-returns-4 : (t : ℕ) → nested-lts.Need-returns-4 (nested-claims t) (nested-at t) nested.Post
 unfolding asValue
-nested-returns-4 t c =
-    let s = c .before .before .before .before .before .before .before .before in
-    sym (ap asValue (opened-some _ _ _ _ _ (c .before .before .before .before .before .before .if1 .left) ∙ closed-none 41 (s .args .s .now) _ _ _ (value-got _ _ _ (sym (c .before .before .before .before .before .guard .ensures) ∙ c .before .before .before .p2 .given .1)) (λ e. c .if2 .left (c .before .byte-at .ensures ∙ e))))
+nested-returns-4 t c = closing-none asValue _ _ (opened-some _ _ _ _ _ (c .before .before .before .before .before .before .if1 .left)) (value-got (c .before .before .before .before .before .guard .ensures) (c .before .before .before .p2 .given .1)) (c .before .byte-at .ensures) (c .if2 .left)
 
 pub +atom+conjoined+conjunction+disjoined+guard+nested-spec : {M : Type 1} → statement M
 +atom+conjoined+conjunction+disjoined+guard+nested-spec =

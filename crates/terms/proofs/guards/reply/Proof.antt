@@ -37,16 +37,16 @@ truth-requires : tie.Need-truth-requires
 truth-requires c κs = search needs
 
 returns : tie.Need-returns
-returns c = answer-bad _ _ _ (closed-fail _ _ _ _ (variable-bad _ _ (sym (c .before .before .before .variable .ensures) ∙ c .before .p .given .1)))
+returns c = answer-bad _ _ _ (closed-fail _ _ _ _ (variable-bad (c .before .before .before .variable .ensures) (c .before .p .given .1)))
 
 returns-2 : tie.Need-returns-2
 returns-2 c =
     let x = c .before .before .before .before .before .p2 .given in
     ap (λ z. Got (x .0 .0 + 1) (Value z)) (handed _ _ (c .truth .ok) (c .truth .ensures ∙ ap truth (c .before .is-replied .ensures)))
-    ∙ answer-got _ _ _ _ (closed-go _ _ _ _ _ (variable-got _ _ _ (sym (c .before .before .before .before .before .before .before .variable .ensures) ∙ x .1)) (sym (c .before .before .before .byte-at .ensures) ∙ c .before .before .if1 .taken))
+    ∙ answer-got _ _ _ _ (closed-go _ _ _ _ _ (variable-got (c .before .before .before .before .before .before .before .variable .ensures) (x .1)) (sym (c .before .before .before .byte-at .ensures) ∙ c .before .before .if1 .taken))
 
 returns-3 : tie.Need-returns-3
-returns-3 c = answer-bad _ _ _ (closed-none _ _ _ _ _ (variable-got _ _ _ (sym (c .before .before .before .before .before .variable .ensures) ∙ c .before .before .before .p2 .given .1)) (λ e. c .if1 .left (c .before .byte-at .ensures ∙ e)))
+returns-3 c = answer-bad _ _ _ (closed-none _ _ _ _ _ (variable-got (c .before .before .before .before .before .variable .ensures) (c .before .before .before .p2 .given .1)) (λ e. c .if1 .left (c .before .byte-at .ensures ∙ e)))
 
 pub reply-spec : {M : Type 1} → statement M
 reply-spec =

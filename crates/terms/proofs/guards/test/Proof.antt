@@ -19,11 +19,11 @@ tested-requires : tie.Need-tested-requires
 tested-requires c κs = search needs
 
 returns : tie.Need-returns
-returns c = answer-bad _ _ _ (value-bad _ _ (sym (c .before .before .before .bracketed .ensures) ∙ c .before .p .given .1))
+returns c = answer-bad _ _ _ (value-bad (c .before .before .before .bracketed .ensures) (c .before .p .given .1))
 
 returns-2 : tie.Need-returns-2
 returns-2 c =
-    ap (Got (c .before .before .p2 .given .0 .0)) (c .tested .ensures) ∙ answer-got _ _ _ _ (value-got _ _ _ (sym (c .before .before .before .before .bracketed .ensures) ∙ c .before .before .p2 .given .1))
+    ap (Got (c .before .before .p2 .given .0 .0)) (c .tested .ensures) ∙ answer-got _ _ _ _ (value-got (c .before .before .before .before .bracketed .ensures) (c .before .before .p2 .given .1))
 
 pub test-spec : {M : Type 1} → statement M
 test-spec =
