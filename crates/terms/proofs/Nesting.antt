@@ -5,8 +5,11 @@ use mathlib.Core.Path.{_≡_, refl, sym, ap, _∙_}
 use native.Mathlib.Nat.{suc-mul}
 use native.Mathlib.Omega.{arith}
 use borrow.Author.Tests.{eq-eqb, ne-eqb}
+use Rattle.whole.specs.declared.Worked.{Worked}
 use Rattle.terms.specs.declared.Limits.{Limits}
+use Rattle.terms.specs.declared.ReadValue.{ReadValue}
 use Rattle.terms.specs.declared.Start.{Start}
+use Rattle.terms.specs.Vocabulary.Answers.{asValue}
 use Rattle.terms.specs.Bytes.{Text, byteAt}
 use Rattle.terms.specs.Expressions.{Reading, startOf, factorBy, factor}
 use Rattle.terms.specs.Parsed.{Parsed, got, bad, next, mapped, word, closed, opened}
@@ -45,11 +48,11 @@ module _ {A B : Type 0} (answer : Parsed A → B) (b : ℕ) (s : Text) {w q : Pa
     pub closing-none : (x ≡ b → ⊥) → answer (bad p) ≡ answer w
     closing-none n = sym (ap answer (c ∙ closed-none b s q p a e (λ g. n (f ∙ g))))
 
-module _ {A : Type 0} (R : Reading A) (lim : Limits) (s : Text) where
-  -- a factor, by what it begins with
-  pub factor-by : (within : ℕ → Parsed A) (at : ℕ) (b : Start) → startOf (byteAt s at) ≡ b → factor R lim s within at ≡ factorBy R lim s b within at
-  unfolding factor
-  factor-by within at b e = ap (λ x. factorBy R lim s x within at) e
+-- a factor, by what it begins with
+pub factor-by : (R : Reading Worked) (lim : Limits) (s : Text) (within : ℕ → Parsed Worked) (at : ℕ) {b b′ : Start} {r : ReadValue} → b ≡ startOf (byteAt s at) → b ≡ b′
+    → r ≡ asValue (factorBy R lim s b′ within at) → r ≡ asValue (factor R lim s within at)
+unfolding factor
+factor-by R lim s within at e f g = g ∙ ap (λ x. asValue (factorBy R lim s x within at)) (sym f ∙ e)
 
 -- no bracket is allowed, or one more is
 module _ {A : Type 0} (b : ℕ) (s : Text) (item : ℕ → ℕ → Parsed A) where
@@ -77,20 +80,22 @@ unfoldable pub weight : ℕ → ℕ → ℕ → ℕ → ℕ
 weight end left at rank = (left * (end + 1) + (end - at)) * 8 + rank
 
 -- a reader of a lower rank, at the same place or after it
-pub weight-rank : (end left at p rank rank′ : ℕ) → at ≤ p → rank < rank′ → weight end left p rank < weight end left at rank′
+pub weight-rank : (end left at p rank rank′ : ℕ) {n : ℕ} → weight end left at rank′ ≡ n → at ≤ p → rank < rank′ → weight end left p rank < n
 unfolding weight
-weight-rank end left at p rank rank′ h k = omega arith
+weight-rank end left at p rank rank′ e h k = omega arith
 
 -- any reader, after the place
-pub weight-on : (end left at p rank rank′ : ℕ) → at < end → at < p → rank < 8 → weight end left p rank < weight end left at rank′
+pub weight-on : (end left at p rank rank′ : ℕ) {n : ℕ} → weight end left at rank′ ≡ n → at < end → at < p → rank < 8 → weight end left p rank < n
 unfolding weight
-weight-on end left at p rank rank′ h k r = omega arith
+weight-on end left at p rank rank′ e h k r = omega arith
 
 weight-less : (end left k at p rank rank′ : ℕ) → k ≡ left → rank < 8 → weight end k p rank < weight end (suc left) at rank′
 unfolding weight
 weight-less end left k at p rank rank′ e r = rw (e, suc-mul left (end + 1)) (omega arith)
 
 -- any reader, with a bracket less
-pub weight-inside : (end left at p rank rank′ : ℕ) → (left ≡ 0 → ⊥) → rank < 8 → weight end (left - 1) p rank < weight end left at rank′
-weight-inside end zero at p rank rank′ n r = absurd (n refl)
-weight-inside end (suc left) at p rank rank′ n r = weight-less end left (suc left - 1) at p rank rank′ (omega arith) r
+pub weight-inside : (end left at p rank rank′ : ℕ) {n : ℕ} → weight end left at rank′ ≡ n → (left ≡ 0 → ⊥) → rank < 8 → weight end (left - 1) p rank < n
+weight-inside end zero at p rank rank′ e z r = absurd (z refl)
+weight-inside end (suc left) at p rank rank′ e z r =
+    let l = weight-less end left (suc left - 1) at p rank rank′ (omega arith) r in
+    omega arith

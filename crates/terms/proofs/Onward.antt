@@ -1,14 +1,17 @@
 -- Every reader of terms moves on: what it reads ends after the place that it began at. Assumes nothing.
 use Prim.Native.Nat.{ℕ, zero, suc, _+_, _<_}
 use Prim.Native.Char.{code}
-use mathlib.Core.Path.{_≡_, refl, ap}
+use mathlib.Core.Path.{_≡_, refl, sym, ap, _∙_}
 use native.Mathlib.Omega.{arith}
 use lib.ListN.{length}
+use Rattle.whole.specs.declared.Worked.{Worked}
 use Rattle.terms.specs.declared.AtomStart.{AtomStart}
 use Rattle.terms.specs.declared.AtomStart.the-variants as AtomStart
 use Rattle.terms.specs.declared.Limits.{Limits}
+use Rattle.terms.specs.declared.ReadValue.{ReadValue}
 use Rattle.terms.specs.declared.Start.{Start}
 use Rattle.terms.specs.declared.Start.the-variants as Start
+use Rattle.terms.specs.Vocabulary.Answers.{asValue}
 use Rattle.terms.specs.Bytes.{Text, bytes, byteAt}
 use Rattle.terms.specs.Expressions.{Reading, largest, startOf, star, sign, comparison, factorBy, factor, product, sum, comparing, expression}
 use Rattle.terms.specs.Guards.{GuardReading, atomStartOf, ampersand, bar, atomBy, atom, conjunction, disjunction, guard}
@@ -105,8 +108,8 @@ module _ {A G : Type 0} (R : Reading A) (Q : GuardReading A G) (lim : Limits) (s
   guard-is zero at = unfold guard opened in refl
   guard-is (suc left) at = unfold guard opened in refl
 
-  -- an atom, by what it begins with
-  pub atom-by : (test : ℕ → Parsed A) (within : ℕ → Parsed G) (at : ℕ) (b : AtomStart) → atomStartOf (byteAt s at) ≡ b
-      → atom R Q lim s test within at ≡ atomBy R Q lim s b test within at
-  unfolding atom
-  atom-by test within at b e = ap (λ x. atomBy R Q lim s x test within at) e
+-- an atom, by what it begins with
+pub atom-by : (R : Reading Worked) (Q : GuardReading Worked Worked) (lim : Limits) (s : Text) (test within : ℕ → Parsed Worked) (at : ℕ) {b b′ : AtomStart} {r : ReadValue}
+    → b ≡ atomStartOf (byteAt s at) → b ≡ b′ → r ≡ asValue (atomBy R Q lim s b′ test within at) → r ≡ asValue (atom R Q lim s test within at)
+unfolding atom
+atom-by R Q lim s test within at e f g = g ∙ ap (λ x. asValue (atomBy R Q lim s x test within at)) (sym f ∙ e)
