@@ -1,10 +1,12 @@
 -- What closes a bracket, what stands in one, and the number that falls at each call of a reader. Assumes nothing.
 use Prim.Native.Nat.{ℕ, zero, suc, _+_, _-_, _*_, _≤_, _<_}
-use mathlib.Core.List.{[], _∷_}
+use mathlib.Core.List.{List, [], _∷_}
 use mathlib.Core.Path.{_≡_, refl, sym, ap, _∙_}
 use native.Mathlib.Nat.{suc-mul}
 use native.Mathlib.Omega.{arith}
 use borrow.Author.Tests.{eq-eqb, ne-eqb}
+use borrow.Fn.Kinds.{PK, In}
+use borrow.Fn.PlainCycle.{Measures, is, falls, and}
 use Rattle.whole.specs.declared.Worked.{Worked}
 use Rattle.terms.specs.declared.Limits.{Limits}
 use Rattle.terms.specs.declared.ReadValue.{ReadValue}
@@ -99,3 +101,11 @@ weight-inside end zero at p rank rank′ e z r = absurd (z refl)
 weight-inside end (suc left) at p rank rank′ e z r =
     let l = weight-less end left (suc left - 1) at p rank rank′ (omega arith) r in
     omega arith
+
+-- what a reader of a cycle is asked where that number is `n`, and where it is below `n`
+module _ (ps : List (PK 2)) (μ : Measures 2 ps ℕ) (P : In 2 ps) (n : ℕ) where
+  abbrev pub askedAt : In 2 ps
+  askedAt = and 2 ps (is 2 ps μ n) P
+
+  abbrev pub askedBelow : In 2 ps
+  askedBelow = and 2 ps (falls 2 ps _<_ μ n) P

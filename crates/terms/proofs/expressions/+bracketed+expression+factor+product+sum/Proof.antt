@@ -1,16 +1,16 @@
 -- The readers of expressions meet their contracts: one proof of the cycle of their calls. The measure is that of document 01, the count of brackets
 -- still allowed and then the length left, with a rank that orders the readers at one place. Assumes nothing.
-use Prim.Native.Nat.{_-_, _<_, ℕ}
+use Prim.Native.Nat.{_-_, ℕ}
 use borrow.Author.Needs.{needs}
 use borrow.Fn.Kinds.{In}
-use borrow.Fn.PlainCycle.{Measures, is, falls, and}
+use borrow.Fn.PlainCycle.{Measures}
 use lib.ListN.{length}
 use mathlib.Core.Path.{_≡_, refl, sym, ap, _∙_}
 use native.Mathlib.Omega.{arith}
 use Rattle.terms.proofs.Answers.{value-got, value-bad, operator-some, operator-none}
 use Rattle.terms.proofs.Grouping.{no-other, oneMore, onward-first, Came, came-fail, came-nearer, came-stop, came-go, came-last, came-once}
 use Rattle.terms.proofs.Moving.{within-text}
-use Rattle.terms.proofs.Nesting.{closing-bad, closing-got, closing-none, factor-by, opened-none, opened-some, positive, weight, weight-rank, weight-inside}
+use Rattle.terms.proofs.Nesting.{closing-bad, closing-got, closing-none, factor-by, opened-none, opened-some, positive, weight, weight-rank, weight-inside, askedAt, askedBelow}
 use Rattle.terms.proofs.Onward.{moves-factor, moves-product, moves-sum, moves-opened, moves-expression, expression-is}
 use Rattle.terms.proofs.Series.{operator-within}
 use Rattle.terms.proofs.Starts.{star-none, star-some, star-zero, sign-zero, comparison-zero, start-within}
@@ -63,37 +63,34 @@ abbrev μ-sum : Measures 2 sum-kinds.ps ℕ
 μ-sum κs a = weight (length (a .0 .now)) (a .1 .1 .1 .1 .0) (a .1 .0) 5
 
 abbrev bracketed-at : ℕ → In 2 bracketed-kinds.ps
-bracketed-at t = and 2 bracketed-kinds.ps (is 2 bracketed-kinds.ps μ-bracketed t) bracketed.Pre
+bracketed-at = askedAt bracketed-kinds.ps μ-bracketed bracketed.Pre
 
 abbrev bracketed-below : ℕ → In 2 bracketed-kinds.ps
-bracketed-below t =
-    and 2 bracketed-kinds.ps (falls 2 bracketed-kinds.ps _<_ μ-bracketed t) bracketed.Pre
+bracketed-below = askedBelow bracketed-kinds.ps μ-bracketed bracketed.Pre
 
 abbrev expression-at : ℕ → In 2 expression-kinds.ps
-expression-at t =
-    and 2 expression-kinds.ps (is 2 expression-kinds.ps μ-expression t) expression.Pre
+expression-at = askedAt expression-kinds.ps μ-expression expression.Pre
 
 abbrev expression-below : ℕ → In 2 expression-kinds.ps
-expression-below t =
-    and 2 expression-kinds.ps (falls 2 expression-kinds.ps _<_ μ-expression t) expression.Pre
+expression-below = askedBelow expression-kinds.ps μ-expression expression.Pre
 
 abbrev factor-at : ℕ → In 2 factor-kinds.ps
-factor-at t = and 2 factor-kinds.ps (is 2 factor-kinds.ps μ-factor t) factor.Pre
+factor-at = askedAt factor-kinds.ps μ-factor factor.Pre
 
 abbrev factor-below : ℕ → In 2 factor-kinds.ps
-factor-below t = and 2 factor-kinds.ps (falls 2 factor-kinds.ps _<_ μ-factor t) factor.Pre
+factor-below = askedBelow factor-kinds.ps μ-factor factor.Pre
 
 abbrev product-at : ℕ → In 2 product-kinds.ps
-product-at t = and 2 product-kinds.ps (is 2 product-kinds.ps μ-product t) product.Pre
+product-at = askedAt product-kinds.ps μ-product product.Pre
 
 abbrev product-below : ℕ → In 2 product-kinds.ps
-product-below t = and 2 product-kinds.ps (falls 2 product-kinds.ps _<_ μ-product t) product.Pre
+product-below = askedBelow product-kinds.ps μ-product product.Pre
 
 abbrev sum-at : ℕ → In 2 sum-kinds.ps
-sum-at t = and 2 sum-kinds.ps (is 2 sum-kinds.ps μ-sum t) sum.Pre
+sum-at = askedAt sum-kinds.ps μ-sum sum.Pre
 
 abbrev sum-below : ℕ → In 2 sum-kinds.ps
-sum-below t = and 2 sum-kinds.ps (falls 2 sum-kinds.ps _<_ μ-sum t) sum.Pre
+sum-below = askedBelow sum-kinds.ps μ-sum sum.Pre
 
 abbrev bracketed-claims : ℕ → bracketed-lts.Claims
 bracketed-claims t = (expression-below t, expression.Post, byte-at-reads.Asked, byte-at-reads.Learnt)

@@ -1,14 +1,14 @@
 -- The readers of guards meet their contracts: one proof of the cycle of their calls, with the measure of the readers of expressions. Assumes nothing.
-use Prim.Native.Nat.{_-_, _<_, ℕ}
+use Prim.Native.Nat.{_-_, ℕ}
 use borrow.Author.Needs.{needs}
 use borrow.Fn.Kinds.{In}
-use borrow.Fn.PlainCycle.{Measures, is, falls, and}
+use borrow.Fn.PlainCycle.{Measures}
 use lib.ListN.{length}
 use mathlib.Core.Path.{_≡_, refl, sym, ap, _∙_}
 use native.Mathlib.Omega.{arith}
 use Rattle.terms.proofs.Answers.{value-got, value-bad}
 use Rattle.terms.proofs.Moving.{within-text}
-use Rattle.terms.proofs.Nesting.{closing-bad, closing-got, closing-none, opened-none, opened-some, positive, weight, weight-rank, weight-on, weight-inside}
+use Rattle.terms.proofs.Nesting.{closing-bad, closing-got, closing-none, opened-none, opened-some, positive, weight, weight-rank, weight-on, weight-inside, askedAt, askedBelow}
 use Rattle.terms.proofs.Onward.{moves-opened, moves-expression, moves-atom, moves-conjunction, moves-guard, guard-is, atom-by}
 use Rattle.terms.proofs.Series.{operator-within, first-fail, first-go, Joined, joins-stop, joins-fail, joins-nearer, joins-go}
 use Rattle.terms.proofs.Starts.{ampersand-zero, ampersand-none, ampersand-some, bar-zero, bar-none, bar-some, atom-within}
@@ -65,44 +65,40 @@ abbrev μ-nested : Measures 2 nested-kinds.ps ℕ
 μ-nested κs a = weight (length (a .0 .now)) (a .1 .1 .1 .1 .0) (a .1 .0) 0
 
 abbrev atom-at : ℕ → In 2 atom-kinds.ps
-atom-at t = and 2 atom-kinds.ps (is 2 atom-kinds.ps μ-atom t) atom.Pre
+atom-at = askedAt atom-kinds.ps μ-atom atom.Pre
 
 abbrev atom-below : ℕ → In 2 atom-kinds.ps
-atom-below t = and 2 atom-kinds.ps (falls 2 atom-kinds.ps _<_ μ-atom t) atom.Pre
+atom-below = askedBelow atom-kinds.ps μ-atom atom.Pre
 
 abbrev conjoined-at : ℕ → In 2 conjoined-kinds.ps
-conjoined-at t = and 2 conjoined-kinds.ps (is 2 conjoined-kinds.ps μ-conjoined t) conjoined.Pre
+conjoined-at = askedAt conjoined-kinds.ps μ-conjoined conjoined.Pre
 
 abbrev conjoined-below : ℕ → In 2 conjoined-kinds.ps
-conjoined-below t =
-    and 2 conjoined-kinds.ps (falls 2 conjoined-kinds.ps _<_ μ-conjoined t) conjoined.Pre
+conjoined-below = askedBelow conjoined-kinds.ps μ-conjoined conjoined.Pre
 
 abbrev conjunction-at : ℕ → In 2 conjunction-kinds.ps
-conjunction-at t =
-    and 2 conjunction-kinds.ps (is 2 conjunction-kinds.ps μ-conjunction t) conjunction.Pre
+conjunction-at = askedAt conjunction-kinds.ps μ-conjunction conjunction.Pre
 
 abbrev conjunction-below : ℕ → In 2 conjunction-kinds.ps
-conjunction-below t =
-    and 2 conjunction-kinds.ps (falls 2 conjunction-kinds.ps _<_ μ-conjunction t) conjunction.Pre
+conjunction-below = askedBelow conjunction-kinds.ps μ-conjunction conjunction.Pre
 
 abbrev disjoined-at : ℕ → In 2 disjoined-kinds.ps
-disjoined-at t = and 2 disjoined-kinds.ps (is 2 disjoined-kinds.ps μ-disjoined t) disjoined.Pre
+disjoined-at = askedAt disjoined-kinds.ps μ-disjoined disjoined.Pre
 
 abbrev disjoined-below : ℕ → In 2 disjoined-kinds.ps
-disjoined-below t =
-    and 2 disjoined-kinds.ps (falls 2 disjoined-kinds.ps _<_ μ-disjoined t) disjoined.Pre
+disjoined-below = askedBelow disjoined-kinds.ps μ-disjoined disjoined.Pre
 
 abbrev guard-at : ℕ → In 2 guard-kinds.ps
-guard-at t = and 2 guard-kinds.ps (is 2 guard-kinds.ps μ-guard t) guard.Pre
+guard-at = askedAt guard-kinds.ps μ-guard guard.Pre
 
 abbrev guard-below : ℕ → In 2 guard-kinds.ps
-guard-below t = and 2 guard-kinds.ps (falls 2 guard-kinds.ps _<_ μ-guard t) guard.Pre
+guard-below = askedBelow guard-kinds.ps μ-guard guard.Pre
 
 abbrev nested-at : ℕ → In 2 nested-kinds.ps
-nested-at t = and 2 nested-kinds.ps (is 2 nested-kinds.ps μ-nested t) nested.Pre
+nested-at = askedAt nested-kinds.ps μ-nested nested.Pre
 
 abbrev nested-below : ℕ → In 2 nested-kinds.ps
-nested-below t = and 2 nested-kinds.ps (falls 2 nested-kinds.ps _<_ μ-nested t) nested.Pre
+nested-below = askedBelow nested-kinds.ps μ-nested nested.Pre
 
 abbrev atom-claims : ℕ → atom-lts.Claims
 atom-claims t = (atom-start-at-reads.Asked, atom-start-at-reads.Learnt, waited-reads.Asked, waited-reads.Learnt, named-reads.Asked, named-reads.Learnt, reply-reads.Asked, reply-reads.Learnt, test-reads.Asked, test-reads.Learnt, nested-below t, nested.Post)
