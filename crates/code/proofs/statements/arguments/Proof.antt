@@ -16,12 +16,6 @@ use Rattle.code.proofs.statements.arguments.Tie as tie
 first : (c : tie.After-with-one) → c .with-one .result ≡ withOne noArguments (c .before .before .before .p2 .given .0 .1 .0)
 first c = c .with-one .ensures ∙ ap (λ a. withOne a (c .before .before .before .p2 .given .0 .1 .0)) (c .before .no-arguments3 .ensures)
 
-byte-at-requires : tie.Need-byte-at-requires
-byte-at-requires c κs = search needs
-
-no-arguments-requires : tie.Need-no-arguments-requires
-no-arguments-requires c κs = search needs
-
 returns : tie.Need-returns
 unfolding asList
 returns c =
@@ -33,21 +27,6 @@ add-expression : tie.Need-add-expression
 add-expression c =
     let w = within-text (c .before .before .before .args .s .now) (c .before .before .before .args .at) 32 (sym (c .before .byte-at .ensures) ∙ c .if1 .left) (omega arith) in
     omega arith
-
-expression-requires : tie.Need-expression-requires
-expression-requires c κs = search needs
-
-enum-known-p : tie.Need-enum-known-p
-enum-known-p c = search needs
-
-no-arguments-requires-2 : tie.Need-no-arguments-requires-2
-no-arguments-requires-2 c κs = search needs
-
-enum-known-p-2 : tie.Need-enum-known-p-2
-enum-known-p-2 c = search needs
-
-no-arguments-requires-3 : tie.Need-no-arguments-requires-3
-no-arguments-requires-3 c κs = search needs
 
 with-one-requires : tie.Need-with-one-requires
 unfolding noArguments
@@ -80,15 +59,15 @@ pub arguments-spec : {M : Type 1} → statement M
 arguments-spec =
     tie.close
     (tie.spec
-    byte-at-requires
-    no-arguments-requires
+    (λ c κs. search needs)
+    (λ c κs. search needs)
     returns
     add-expression
-    expression-requires
-    enum-known-p
-    no-arguments-requires-2
-    enum-known-p-2
-    no-arguments-requires-3
+    (λ c κs. search needs)
+    (λ c. search needs)
+    (λ c κs. search needs)
+    (λ c. search needs)
+    (λ c κs. search needs)
     with-one-requires
     gathered-requires
     returns-2

@@ -7,29 +7,19 @@ use Rattle.code.specs.Reader.{beginning, initials}
 use Rattle.code.proofs.statements.form_of.Statement.{statement}
 use Rattle.code.proofs.statements.form_of.Tie as tie
 
-byte-at-requires : tie.Need-byte-at-requires
-byte-at-requires c κs = search needs
-
-form-by-requires : tie.Need-form-by-requires
-form-by-requires c κs = search needs
-
 returns : tie.Need-returns
 returns c =
     let b = c .before .before .byte-at .ensures in
     c .form-by .ensures ∙ ap (λ n. asForm (beginning n initials)) b ∙ sym (ap asForm (form-other _ (λ e. c .before .if1 .taken (b ∙ e))))
 
-byte-at-requires-2 : tie.Need-byte-at-requires-2
-byte-at-requires-2 c κs = search needs
-
-returns-2 : tie.Need-returns-2
-unfolding asForm
-returns-2 c = sym (ap asForm (form-skip _ (sym (c .before .before .before .byte-at .ensures) ∙ c .before .before .if1 .left) (sym (c .before .byte-at2 .ensures) ∙ c .if2 .taken)))
-
-returns-3 : tie.Need-returns-3
-unfolding asForm
-returns-3 c = sym (ap asForm (form-set _ (sym (c .before .before .before .byte-at .ensures) ∙ c .before .before .if1 .left) (λ e. c .if2 .left (c .before .byte-at2 .ensures ∙ e))))
-
 pub form-of-spec : {M : Type 1} → statement M
+unfolding asForm
 form-of-spec =
     tie.close
-    (tie.spec byte-at-requires form-by-requires returns byte-at-requires-2 returns-2 returns-3)
+    (tie.spec
+    (λ c κs. search needs)
+    (λ c κs. search needs)
+    returns
+    (λ c κs. search needs)
+    (λ c. sym (ap asForm (form-skip _ (sym (c .before .before .before .byte-at .ensures) ∙ c .before .before .if1 .left) (sym (c .before .byte-at2 .ensures) ∙ c .if2 .taken))))
+    (λ c. sym (ap asForm (form-set _ (sym (c .before .before .before .byte-at .ensures) ∙ c .before .before .if1 .left) (λ e. c .if2 .left (c .before .byte-at2 .ensures ∙ e))))))

@@ -39,12 +39,6 @@ more-is n h = omega arith
 none-left : (n : ℕ) → n ≤ 0 → n ≡ 0
 none-left n h = omega arith
 
-loop-holds : tie.Need-loop-holds Inv-loop μ-loop
-loop-holds c = (c .before .pre, refl)
-
-byte-at-requires : tie.Need-byte-at-requires Inv-loop μ-loop
-byte-at-requires c κs = search needs
-
 returns : tie.Need-returns Inv-loop μ-loop
 unfolding asList
 returns c =
@@ -58,15 +52,6 @@ add-expression c =
     let w = operator-within comma comma-zero (s .args .s .now) (c .before .before .before .loop .end) tt (found c) in
     omega arith
 
-expression-requires : tie.Need-expression-requires Inv-loop μ-loop
-expression-requires c κs = search needs
-
-enum-known-p : tie.Need-enum-known-p Inv-loop μ-loop
-enum-known-p c = search needs
-
-no-arguments-requires : tie.Need-no-arguments-requires Inv-loop μ-loop
-no-arguments-requires c κs = search needs
-
 returns-2 : tie.Need-returns-2 Inv-loop μ-loop
 unfolding asList
 returns-2 c =
@@ -77,9 +62,6 @@ returns-2 c =
     ∙ sym (ap asList (l .inv .1
     ∙ ap (λ n. gatheredRead (s .args .cells .now) (s .args .around) 0 (s .args .s .now) n (l .end) (l .list)) (more-is (l .left) (f .before .before .loop-test .taken))
     ∙ counted-fail comma (λ _. withOne) (s .args .s .now) (expressionRead (s .args .cells .now) (s .args .around) (s .args .s .now) brackets) (l .end) (l .list) tt (found f) _ (l .left - 1) (value-bad (c .before .before .before .before .expression .ensures) (c .before .before .p .given .1))))
-
-enum-known-p-2 : tie.Need-enum-known-p-2 Inv-loop μ-loop
-enum-known-p-2 c = search needs
 
 with-one-requires : tie.Need-with-one-requires Inv-loop μ-loop
 with-one-requires c κs =
@@ -125,15 +107,15 @@ gathered-spec =
     (tie.spec
     Inv-loop
     μ-loop
-    loop-holds
-    byte-at-requires
+    (λ c. (c .before .pre, refl))
+    (λ c κs. search needs)
     returns
     add-expression
-    expression-requires
-    enum-known-p
-    no-arguments-requires
+    (λ c κs. search needs)
+    (λ c. search needs)
+    (λ c κs. search needs)
     returns-2
-    enum-known-p-2
+    (λ c. search needs)
     with-one-requires
     sub-left
     loop-less

@@ -4,9 +4,8 @@ use Rattle.code.specs.Vocabulary.Answers.{noArguments}
 use Rattle.code.proofs.statements.no_arguments.Statement.{statement}
 use Rattle.code.proofs.statements.no_arguments.Tie as tie
 
-returns : tie.Need-returns
-unfolding noArguments
-returns c = refl
-
 pub no-arguments-spec : {M : Type 1} → statement M
-no-arguments-spec = tie.close (tie.spec returns)
+unfolding noArguments
+no-arguments-spec = tie.close
+    (tie.spec
+    (λ c. refl))

@@ -19,27 +19,19 @@ small c =
     let l = decimal-below _ _ _ _ _ (number-got _ _ _ (sym (c .before .before .decimal .ensures) ∙ c .p .given .1)) in
     record { sfits = omega arith }
 
-decimal-requires : tie.Need-decimal-requires
-decimal-requires c κs = search needs
-
-enum-known-p : tie.Need-enum-known-p
-enum-known-p c = search needs
-
-cast-t8 : tie.Need-cast-t8
-cast-t8 c = small (c .before)
-
-enum-known-p-2 : tie.Need-enum-known-p-2
-enum-known-p-2 c = search needs
-
 returns : tie.Need-returns
 returns c =
     let n = c .before .p .given in
     ap (λ z. Got (n .0 .0) (Value z)) (toZ-ofZ w32 (pos (n .0 .1 .0)) (small (c .before)))
     ∙ answer-got _ _ _ _ (number-got _ _ _ (sym (c .before .before .before .decimal .ensures) ∙ n .1))
 
-returns-2 : tie.Need-returns-2
-returns-2 c = answer-bad _ _ _ (number-bad _ _ (sym (c .before .before .before .decimal .ensures) ∙ c .before .p2 .given .1))
-
 pub number-spec : {M : Type 1} → statement M
 number-spec =
-    tie.close (tie.spec decimal-requires enum-known-p cast-t8 enum-known-p-2 returns returns-2)
+    tie.close
+    (tie.spec
+    (λ c κs. search needs)
+    (λ c. search needs)
+    (λ c. small (c .before))
+    (λ c. search needs)
+    returns
+    (λ c. answer-bad _ _ _ (number-bad _ _ (sym (c .before .before .before .decimal .ensures) ∙ c .before .p2 .given .1))))

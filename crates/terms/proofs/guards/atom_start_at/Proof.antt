@@ -8,30 +8,19 @@ use Rattle.terms.specs.Guards.{atomStartOf}
 use Rattle.terms.proofs.guards.atom_start_at.Statement.{statement}
 use Rattle.terms.proofs.guards.atom_start_at.Tie as tie
 
-byte-at-requires : tie.Need-byte-at-requires
-byte-at-requires c κs = search needs
-
-returns : tie.Need-returns
-unfolding atomStartOf told
-returns c = sym (ap atomStartOf (sym (c .before .byte-at .ensures) ∙ c .match .keys1))
-
-returns-2 : tie.Need-returns-2
-unfolding atomStartOf told
-returns-2 c = sym (ap atomStartOf (sym (c .before .byte-at .ensures) ∙ c .match .keys2))
-
-returns-3 : tie.Need-returns-3
-unfolding atomStartOf told
-returns-3 c = sym (ap atomStartOf (sym (c .before .byte-at .ensures) ∙ c .match .keys3))
-
-returns-4 : tie.Need-returns-4
-unfolding atomStartOf told
-returns-4 c = ⊎-elim (λ e. sym (ap atomStartOf (sym (c .before .byte-at .ensures) ∙ e))) (λ e. sym (ap atomStartOf (sym (c .before .byte-at .ensures) ∙ e))) (c .match .keys4)
-
 returns-5 : tie.Need-returns-5
 returns-5 c =
     let r = c .match .rest in
     sym (ap atomStartOf (sym (c .before .byte-at .ensures)) ∙ begins-nothing _ (r .0 .0 .0 .1) (r .0 .0 .1) (r .0 .1) (λ e. r .1 (inl e)) (λ e. r .1 (inr e)))
 
 pub atom-start-at-spec : {M : Type 1} → statement M
+unfolding atomStartOf told
 atom-start-at-spec =
-    tie.close (tie.spec byte-at-requires returns returns-2 returns-3 returns-4 returns-5)
+    tie.close
+    (tie.spec
+    (λ c κs. search needs)
+    (λ c. sym (ap atomStartOf (sym (c .before .byte-at .ensures) ∙ c .match .keys1)))
+    (λ c. sym (ap atomStartOf (sym (c .before .byte-at .ensures) ∙ c .match .keys2)))
+    (λ c. sym (ap atomStartOf (sym (c .before .byte-at .ensures) ∙ c .match .keys3)))
+    (λ c. ⊎-elim (λ e. sym (ap atomStartOf (sym (c .before .byte-at .ensures) ∙ e))) (λ e. sym (ap atomStartOf (sym (c .before .byte-at .ensures) ∙ e))) (c .match .keys4))
+    returns-5)

@@ -6,14 +6,9 @@ use Rattle.whole.specs.Vocabulary.Naturals.{asNatural}
 use Rattle.terms.proofs.leaves.digit_at.Statement.{statement}
 use Rattle.terms.proofs.leaves.digit_at.Tie as tie
 
-byte-at-requires : tie.Need-byte-at-requires
-byte-at-requires c κs = search needs
-
-digit-requires : tie.Need-digit-requires
-digit-requires c κs = search needs
-
-returns : tie.Need-returns
-returns c = c .digit .ensures ∙ ap (λ b. asNatural (digitOf b)) (c .before .byte-at .ensures)
-
 pub digit-at-spec : {M : Type 1} → statement M
-digit-at-spec = tie.close (tie.spec byte-at-requires digit-requires returns)
+digit-at-spec = tie.close
+    (tie.spec
+    (λ c κs. search needs)
+    (λ c κs. search needs)
+    (λ c. c .digit .ensures ∙ ap (λ b. asNatural (digitOf b)) (c .before .byte-at .ensures)))

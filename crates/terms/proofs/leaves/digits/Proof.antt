@@ -28,39 +28,10 @@ found-digit : (c : tie.After-d Inv-loop μ-loop)
     → digit (byteAt (c .before .before .before .before .before .args .s .now) (c .before .before .before .loop .end)) ≡ some (c .d .given .0 .0)
 found-digit c = natural-some _ _ (sym (c .before .before .digit-at .ensures) ∙ c .d .given .1)
 
-loop-holds : tie.Need-loop-holds Inv-loop μ-loop
-loop-holds c = (c .before .pre, refl)
-
-digit-at-requires : tie.Need-digit-at-requires Inv-loop μ-loop
-digit-at-requires c κs = search needs
-
-enum-told : tie.Need-enum-told Inv-loop μ-loop
-enum-told c = search needs
-
-returns : tie.Need-returns Inv-loop μ-loop
-unfolding asNumber
-returns c = sym (ap asNumber (c .before .before .before .loop .inv .1 ∙ digits-none _ _ _ _ (natural-none _ (sym (c .before .before .digit-at .ensures) ∙ c .enum-told .given .1))))
-
-enum-known-d : tie.Need-enum-known-d Inv-loop μ-loop
-enum-known-d c = search needs
-
-cast-longer : tie.Need-cast-longer Inv-loop μ-loop
-cast-longer c = search needs
-
-mul-longer : tie.Need-mul-longer Inv-loop μ-loop
-mul-longer c = omega arith
-
 add-longer : tie.Need-add-longer Inv-loop μ-loop
 add-longer c =
     let d = digit-is _ _ (found-digit (c .before)) in
     omega arith
-
-returns-2 : tie.Need-returns-2 Inv-loop μ-loop
-unfolding asNumber
-returns-2 c = sym (ap asNumber (c .before .before .before .before .before .loop .inv .1 ∙ digits-past _ _ _ _ _ (found-digit (c .before .before)) (c .if1 .taken)))
-
-cast-value : tie.Need-cast-value Inv-loop μ-loop
-cast-value c = omega arith
 
 add-end : tie.Need-add-end Inv-loop μ-loop
 add-end c =
@@ -81,21 +52,22 @@ loop-again c = (
 )
 
 pub digits-spec : {M : Type 1} → statement M
+unfolding asNumber
 digits-spec =
     tie.close
     (tie.spec
     Inv-loop
     μ-loop
-    loop-holds
-    digit-at-requires
-    enum-told
-    returns
-    enum-known-d
-    cast-longer
-    mul-longer
+    (λ c. (c .before .pre, refl))
+    (λ c κs. search needs)
+    (λ c. search needs)
+    (λ c. sym (ap asNumber (c .before .before .before .loop .inv .1 ∙ digits-none _ _ _ _ (natural-none _ (sym (c .before .before .digit-at .ensures) ∙ c .enum-told .given .1)))))
+    (λ c. search needs)
+    (λ c. search needs)
+    (λ c. omega arith)
     add-longer
-    returns-2
-    cast-value
+    (λ c. sym (ap asNumber (c .before .before .before .before .before .loop .inv .1 ∙ digits-past _ _ _ _ _ (found-digit (c .before .before)) (c .if1 .taken))))
+    (λ c. omega arith)
     add-end
     loop-less
     loop-again)

@@ -24,57 +24,24 @@ positive c = let h = c .if1 .left in nonzero (c .before .before .args .limit) h
     nonzero zero h = absurd (h refl)
     nonzero (suc n) h = omega arith
 
-returns : tie.Need-returns
-unfolding asNumber
-returns c = sym (ap asNumber (numbered-never _ _ _ (c .if1 .taken)))
-
-add-digit-at : tie.Need-add-digit-at
-add-digit-at c = search needs
-
-digit-at-requires : tie.Need-digit-at-requires
-digit-at-requires c κs = search needs
-
-enum-told : tie.Need-enum-told
-enum-told c = search needs
-
-add-t9 : tie.Need-add-t9
-add-t9 c = search needs
-
-enum-known-d : tie.Need-enum-known-d
-enum-known-d c = search needs
-
-add-t12 : tie.Need-add-t12
-add-t12 c = search needs
-
 cast-t13 : tie.Need-cast-t13
 cast-t13 c =
     let d = digit-is _ _ (found-digit (c .before .before)) in
     omega arith
 
-returns-2 : tie.Need-returns-2
-unfolding asNumber
-returns-2 c = sym (ap asNumber (numbered-none _ _ _ (positive (c .before .before .before)) (natural-none _ (sym (c .before .before .digit-at .ensures) ∙ c .enum-told .given .1))))
-
-returns-3 : tie.Need-returns-3
-unfolding asNumber
-returns-3 c = sym (ap asNumber (numbered-some _ _ _ (positive (c .before .before .before .before .before)) _ (found-digit (c .before .before)) (c .if2 .taken)))
-
-returns-4 : tie.Need-returns-4
-unfolding asNumber
-returns-4 c = sym (ap asNumber (numbered-past _ _ _ (positive (c .before .before .before .before .before)) _ (found-digit (c .before .before)) (c .if2 .left)))
-
 pub numbered-spec : {M : Type 1} → statement M
+unfolding asNumber
 numbered-spec =
     tie.close
     (tie.spec
-    returns
-    add-digit-at
-    digit-at-requires
-    enum-told
-    add-t9
-    enum-known-d
-    add-t12
+    (λ c. sym (ap asNumber (numbered-never _ _ _ (c .if1 .taken))))
+    (λ c. search needs)
+    (λ c κs. search needs)
+    (λ c. search needs)
+    (λ c. search needs)
+    (λ c. search needs)
+    (λ c. search needs)
     cast-t13
-    returns-2
-    returns-3
-    returns-4)
+    (λ c. sym (ap asNumber (numbered-none _ _ _ (positive (c .before .before .before)) (natural-none _ (sym (c .before .before .digit-at .ensures) ∙ c .enum-told .given .1)))))
+    (λ c. sym (ap asNumber (numbered-some _ _ _ (positive (c .before .before .before .before .before)) _ (found-digit (c .before .before)) (c .if2 .taken))))
+    (λ c. sym (ap asNumber (numbered-past _ _ _ (positive (c .before .before .before .before .before)) _ (found-digit (c .before .before)) (c .if2 .left)))))

@@ -16,22 +16,10 @@ use Rattle.terms.proofs.leaves.variable.Tie as tie
 letter : (c : tie.After-byte-at) → byteAt (c .before .before .args .s .now) (c .before .before .args .at) ≡ c .byte-at .result
 letter c = sym (c .byte-at .ensures)
 
-byte-at-requires : tie.Need-byte-at-requires
-byte-at-requires c κs = search needs
-
-numbered-requires : tie.Need-numbered-requires
-numbered-requires c κs = within-text (c .before .before .before .args .s .now) _ 97 (letter (c .before) ∙ c .if1 .taken) (omega arith)
-
-enum-known-p : tie.Need-enum-known-p
-enum-known-p c = search needs
-
 cast-t14 : tie.Need-cast-t14
 cast-t14 c =
     let d = numbered-digit _ _ _ _ _ (number-got _ _ _ (sym (c .before .before .before .numbered .ensures) ∙ c .before .p .given .1)) in
     omega arith
-
-enum-known-p-2 : tie.Need-enum-known-p-2
-enum-known-p-2 c = search needs
 
 returns : tie.Need-returns
 unfolding asVariable mapped
@@ -45,19 +33,10 @@ returns-2 c =
     let q = number-bad _ _ (sym (c .before .before .before .numbered .ensures) ∙ c .before .p2 .given .1) in
     sym (ap asVariable (variable-a _ _ _ (letter (c .before .before .before .before .before) ∙ c .before .before .before .before .if1 .taken) ∙ ap (mapped Attribute) q))
 
-numbered-requires-2 : tie.Need-numbered-requires-2
-numbered-requires-2 c κs = within-text (c .before .before .before .before .args .s .now) _ 118 (letter (c .before .before) ∙ c .if2 .taken) (omega arith)
-
-enum-known-p-3 : tie.Need-enum-known-p-3
-enum-known-p-3 c = search needs
-
 cast-t18 : tie.Need-cast-t18
 cast-t18 c =
     let d = numbered-digit _ _ _ _ _ (number-got _ _ _ (sym (c .before .before .before .numbered2 .ensures) ∙ c .before .p3 .given .1)) in
     omega arith
-
-enum-known-p-4 : tie.Need-enum-known-p-4
-enum-known-p-4 c = search needs
 
 returns-3 : tie.Need-returns-3
 unfolding asVariable mapped
@@ -81,17 +60,17 @@ pub variable-spec : {M : Type 1} → statement M
 variable-spec =
     tie.close
     (tie.spec
-    byte-at-requires
-    numbered-requires
-    enum-known-p
+    (λ c κs. search needs)
+    (λ c κs. within-text (c .before .before .before .args .s .now) _ 97 (letter (c .before) ∙ c .if1 .taken) (omega arith))
+    (λ c. search needs)
     cast-t14
-    enum-known-p-2
+    (λ c. search needs)
     returns
     returns-2
-    numbered-requires-2
-    enum-known-p-3
+    (λ c κs. within-text (c .before .before .before .before .args .s .now) _ 118 (letter (c .before .before) ∙ c .if2 .taken) (omega arith))
+    (λ c. search needs)
     cast-t18
-    enum-known-p-4
+    (λ c. search needs)
     returns-3
     returns-4
     returns-5)

@@ -18,21 +18,6 @@ Inv-loop w s at i₀ i = (i ≤ length w) × (word w s at ≡ word (drop i w) s 
 abbrev μ-loop : tie.MeasureT-loop
 μ-loop w s at i₀ i = length w - i
 
-loop-holds : tie.Need-loop-holds Inv-loop μ-loop
-loop-holds c = (omega arith, ap (word _ _) (sym (add-zero _)))
-
-add-byte-at : tie.Need-add-byte-at Inv-loop μ-loop
-add-byte-at c = omega (arith, c .before .before .before .before .good)
-
-byte-at-requires : tie.Need-byte-at-requires Inv-loop μ-loop
-byte-at-requires c κs = search needs
-
-shared-slice-read-if1 : tie.Need-shared-slice-read-if1 Inv-loop μ-loop
-shared-slice-read-if1 c = omega arith
-
-add-t10 : tie.Need-add-t10 Inv-loop μ-loop
-add-t10 c = omega (arith, c .before .before .before .before .before .before .before .good)
-
 returns : tie.Need-returns Inv-loop μ-loop
 unfolding asWord
 returns c =
@@ -40,12 +25,6 @@ returns c =
     let l = c .before .before .before .before .loop in
     sym (ap asWord (l .inv .1 ∙ rest-no (s .args .w .now) (s .args .s .now) (l .i) _ (c .before .before .before .loop-test .taken)
     (λ e. c .if1 .taken (c .before .before .byte-at .ensures ∙ e))))
-
-add-i : tie.Need-add-i Inv-loop μ-loop
-add-i c = omega arith
-
-loop-less : tie.Need-loop-less Inv-loop μ-loop
-loop-less c = omega arith
 
 loop-again : tie.Need-loop-again Inv-loop μ-loop
 loop-again c =
@@ -57,9 +36,6 @@ loop-again c =
           ∙ ap (word _ _) (add-assoc _ _ 1),
     )
 
-add-t11 : tie.Need-add-t11 Inv-loop μ-loop
-add-t11 c = omega (arith, c .before .before .before .before .good)
-
 returns-2 : tie.Need-returns-2 Inv-loop μ-loop
 unfolding asWord
 returns-2 c =
@@ -70,4 +46,17 @@ returns-2 c =
 pub word-spec : {M : Type 1} → statement M
 word-spec =
     tie.close
-    (tie.spec Inv-loop μ-loop loop-holds add-byte-at byte-at-requires shared-slice-read-if1 add-t10 returns add-i loop-less loop-again add-t11 returns-2)
+    (tie.spec
+    Inv-loop
+    μ-loop
+    (λ c. (omega arith, ap (word _ _) (sym (add-zero _))))
+    (λ c. omega (arith, c .before .before .before .before .good))
+    (λ c κs. search needs)
+    (λ c. omega arith)
+    (λ c. omega (arith, c .before .before .before .before .before .before .before .good))
+    returns
+    (λ c. omega arith)
+    (λ c. omega arith)
+    loop-again
+    (λ c. omega (arith, c .before .before .before .before .good))
+    returns-2)

@@ -19,26 +19,14 @@ found c =
     c .reply-for .ensures
     ∙ ap (λ z. asLabel (replyFor (now (c .before .before .args .cells)) (c .before .before .args .here .object .0) z)) (handed _ _ (c .before .held .ok) (c .before .held .ensures))
 
-held-requires : tie.Need-held-requires
-held-requires c κs = search needs
-
-reply-for-requires : tie.Need-reply-for-requires
-reply-for-requires c κs = search needs
-
-enum-told : tie.Need-enum-told
-enum-told c = search needs
-
-enum-told-2 : tie.Need-enum-told-2
-enum-told-2 c = search needs
-
-returns : tie.Need-returns
-unfolding isReplied surroundings
-returns c = rw (label-some _ _ (sym (found (c .before .before)) ∙ c .enum-told .given .1), isReplied) refl
-
-returns-2 : tie.Need-returns-2
-unfolding isReplied surroundings
-returns-2 c = rw (label-none _ (sym (found (c .before .before)) ∙ c .enum-told2 .given .1), isReplied) refl
-
 pub is-replied-spec : {M : Type 1} → statement M
+unfolding isReplied surroundings
 is-replied-spec =
-    tie.close (tie.spec held-requires reply-for-requires enum-told enum-told-2 returns returns-2)
+    tie.close
+    (tie.spec
+    (λ c κs. search needs)
+    (λ c κs. search needs)
+    (λ c. search needs)
+    (λ c. search needs)
+    (λ c. rw (label-some _ _ (sym (found (c .before .before)) ∙ c .enum-told .given .1), isReplied) refl)
+    (λ c. rw (label-none _ (sym (found (c .before .before)) ∙ c .enum-told2 .given .1), isReplied) refl))

@@ -9,11 +9,8 @@ use Rattle.whole.specs.declared.Worked.the-variants.{Value}
 use Rattle.terms.proofs.values.itself.Statement.{statement}
 use Rattle.terms.proofs.values.itself.Tie as tie
 
-cast-t2 : tie.Need-cast-t2
-cast-t2 c = search needs
-
-returns : tie.Need-returns
-returns c = ap Value (toZ-ofZ w32 (pos (c .before .args .here .object .0)) (record { sfits = omega (arith, c .struct-known .given) }))
-
 pub itself-spec : {M : Type 1} → statement M
-itself-spec = tie.close (tie.spec cast-t2 returns)
+itself-spec = tie.close
+    (tie.spec
+    (λ c. search needs)
+    (λ c. ap Value (toZ-ofZ w32 (pos (c .before .args .here .object .0)) (record { sfits = omega (arith, c .struct-known .given) }))))

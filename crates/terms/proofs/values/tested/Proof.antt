@@ -10,28 +10,20 @@ use Rattle.whole.specs.declared.Worked.the-variants.{Value}
 use Rattle.terms.proofs.values.tested.Statement.{statement}
 use Rattle.terms.proofs.values.tested.Tie as tie
 
-enum-known-w : tie.Need-enum-known-w
-enum-known-w c = search needs
-
-is-true-requires : tie.Need-is-true-requires
-is-true-requires c κs = search needs
-
-truth-requires : tie.Need-truth-requires
-truth-requires c κs = search needs
-
-enum-told : tie.Need-enum-told
-enum-told c = search needs
-
 returns : tie.Need-returns
 unfolding tested
 returns c =
     ap Value (handed _ _ (c .truth .ok) (c .truth .ensures ∙ ap truth (c .before .is-true .ensures ∙ ap isTrue (toZ-ofZ w32 _ (record { sfits = c .before .before .known-told .given .0 .1 })))))
     ∙ sym (ap tested (c .before .before .before .w .given .1))
 
-returns-2 : tie.Need-returns-2
-unfolding tested
-returns-2 c = sym (ap tested (c .enum-told .given .1))
-
 pub tested-spec : {M : Type 1} → statement M
+unfolding tested
 tested-spec =
-    tie.close (tie.spec enum-known-w is-true-requires truth-requires enum-told returns returns-2)
+    tie.close
+    (tie.spec
+    (λ c. search needs)
+    (λ c κs. search needs)
+    (λ c κs. search needs)
+    (λ c. search needs)
+    returns
+    (λ c. sym (ap tested (c .enum-told .given .1))))

@@ -7,14 +7,9 @@ use Rattle.whole.specs.declared.Worked.the-variants.{Value}
 use Rattle.terms.proofs.values.waited.Statement.{statement}
 use Rattle.terms.proofs.values.waited.Tie as tie
 
-is-cleared-requires : tie.Need-is-cleared-requires
-is-cleared-requires c κs = search needs
-
-truth-requires : tie.Need-truth-requires
-truth-requires c κs = search needs
-
-returns : tie.Need-returns
-returns c = ap Value (handed _ _ (c .truth .ok) (c .truth .ensures ∙ ap truth (c .before .is-cleared .ensures)))
-
 pub waited-spec : {M : Type 1} → statement M
-waited-spec = tie.close (tie.spec is-cleared-requires truth-requires returns)
+waited-spec = tie.close
+    (tie.spec
+    (λ c κs. search needs)
+    (λ c κs. search needs)
+    (λ c. ap Value (handed _ _ (c .truth .ok) (c .truth .ensures ∙ ap truth (c .before .is-cleared .ensures)))))
