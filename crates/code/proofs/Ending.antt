@@ -36,11 +36,11 @@ module _ {A B : Type 0} (q : Parsed A) (p : ℕ) where
   unfolding next
   after-bad k e = ap (λ r. next r k) e
 
-  pub mapped-is-got : (h : A → B) (a : A) → q ≡ got p a → mapped h q ≡ got p (h a)
+  mapped-is-got : (h : A → B) (a : A) → q ≡ got p a → mapped h q ≡ got p (h a)
   unfolding mapped
   mapped-is-got h a e = ap (mapped h) e
 
-  pub mapped-is-bad : (h : A → B) → q ≡ bad p → mapped h q ≡ bad p
+  mapped-is-bad : (h : A → B) → q ≡ bad p → mapped h q ≡ bad p
   unfolding mapped
   mapped-is-bad h e = ap (mapped h) e
 

@@ -36,6 +36,7 @@ unfolding asNumber
 number-bad (got at b) p e = cc
 number-bad (bad at) p e = cc
 
+-- a variable and a value by two equations: what their reader says, and the case that the code found
 pub variable-got : {q : Parsed Variable} {r : ReadVariable} {p : ℕ} {a : Variable} → r ≡ asVariable q → r ≡ Variable′.Got p a → q ≡ got p a
 unfolding asVariable
 variable-got {q = got at b} e f = cc

@@ -26,11 +26,11 @@ operator-within operator z s at o e = go (ltb at (length s)) refl
 
 -- the first item
 module _ {O A : Type 0} (operator : ℕ → Option O) (apply : O → A → A → A) (s : Text) (item : ℕ → Parsed A) (more at p : ℕ) where
-  pub series-go : (a : A) → item at ≡ got p a → series operator apply s item more at ≡ repeated (joining operator apply s item) more p a
+  series-go : (a : A) → item at ≡ got p a → series operator apply s item more at ≡ repeated (joining operator apply s item) more p a
   unfolding series
   series-go a e = ap (λ q. next q (repeated (joining operator apply s item) more)) e ∙ next-of-got p a _
 
-  pub series-fail : item at ≡ bad p → series operator apply s item more at ≡ bad p
+  series-fail : item at ≡ bad p → series operator apply s item more at ≡ bad p
   unfolding series
   series-fail e = ap (λ q. next q (repeated (joining operator apply s item) more)) e ∙ next-of-bad p _
 

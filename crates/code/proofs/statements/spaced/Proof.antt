@@ -9,11 +9,6 @@ use Rattle.terms.specs.Vocabulary.Answers.{asValue}
 use Rattle.code.proofs.statements.spaced.Statement.{statement}
 use Rattle.code.proofs.statements.spaced.Tie as tie
 
-add-t13 : tie.Need-add-t13
-add-t13 c =
-    let w = within-text (c .before .before .before .before .before .before .before .args .s .now) (c .before .before .before .p2 .given .0 .0) 32 (sym (c .before .byte-at .ensures) ∙ c .if1 .taken) (omega arith) in
-    omega arith
-
 pub spaced-spec : {M : Type 1} → statement M
 unfolding asValue
 spaced-spec =
@@ -23,7 +18,7 @@ spaced-spec =
     (λ c. search needs)
     (λ c. search needs)
     (λ c κs. search needs)
-    add-t13
+    (λ c. let w = within-text (c .before .before .before .before .before .before .before .args .s .now) (c .before .before .before .p2 .given .0 .0) 32 (sym (c .before .byte-at .ensures) ∙ c .if1 .taken) (omega arith) in omega arith)
     (λ c. closing-bad asValue _ _ refl (value-bad (c .before .before .before .expression .ensures) (c .before .p .given .1)))
     (λ c. closing-got asValue _ _ refl (value-got (c .before .before .before .before .before .expression .ensures) (c .before .before .before .p2 .given .1)) (c .before .byte-at .ensures) (c .if1 .taken))
     (λ c. closing-none asValue _ _ refl (value-got (c .before .before .before .before .before .expression .ensures) (c .before .before .before .p2 .given .1)) (c .before .byte-at .ensures) (c .if1 .left)))

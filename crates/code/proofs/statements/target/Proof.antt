@@ -9,11 +9,6 @@ use Rattle.terms.specs.Vocabulary.Answers.{asVariable}
 use Rattle.code.proofs.statements.target.Statement.{statement}
 use Rattle.code.proofs.statements.target.Tie as tie
 
-add-t12 : tie.Need-add-t12
-add-t12 c =
-    let w = within-text (c .before .before .before .before .before .before .before .args .s .now) (c .before .before .before .p2 .given .0 .0) 32 (sym (c .before .byte-at .ensures) ∙ c .if1 .taken) (omega arith) in
-    omega arith
-
 pub target-spec : {M : Type 1} → statement M
 unfolding asVariable
 target-spec =
@@ -23,7 +18,7 @@ target-spec =
     (λ c. search needs)
     (λ c. search needs)
     (λ c κs. search needs)
-    add-t12
+    (λ c. let w = within-text (c .before .before .before .before .before .before .before .args .s .now) (c .before .before .before .p2 .given .0 .0) 32 (sym (c .before .byte-at .ensures) ∙ c .if1 .taken) (omega arith) in omega arith)
     (λ c. closing-bad asVariable _ _ refl (variable-bad (c .before .before .before .variable .ensures) (c .before .p .given .1)))
     (λ c. closing-got asVariable _ _ refl (variable-got (c .before .before .before .before .before .variable .ensures) (c .before .before .before .p2 .given .1)) (c .before .byte-at .ensures) (c .if1 .taken))
     (λ c. closing-none asVariable _ _ refl (variable-got (c .before .before .before .before .before .variable .ensures) (c .before .before .before .p2 .given .1)) (c .before .byte-at .ensures) (c .if1 .left)))

@@ -129,12 +129,6 @@ expression-Inv-loop s at cells around left begin₀ value₀ by₀ begin value b
 abbrev expression-μ-loop : expression-lts.MeasureT-loop
 expression-μ-loop s at cells around left begin₀ value₀ by₀ begin value by = length s - begin
 
-bracketed-add-t18 : (t : ℕ) → bracketed-lts.Need-add-t18 (bracketed-claims t) (bracketed-at t) bracketed.Post
-bracketed-add-t18 t c =
-    let s = c .before .before .before .before .before .before .before .before in
-    let w = within-text (s .args .s .now) (c .before .before .before .p2 .given .0 .0) (s .args .close) (sym (c .before .byte-at .ensures) ∙ c .if2 .taken) (s .pre .1 .1) in
-    omega arith
-
 factor-bracketed-requires : (t : ℕ) → factor-lts.Need-bracketed-requires (factor-claims t) (factor-at t) factor.Post
 factor-bracketed-requires t c κs =
     let s = c .before .before .before .before in (
@@ -159,7 +153,7 @@ unfolding asValue factorBy surroundings productOf sumOf comparing
     (λ c. search needs)
     (λ c. search needs)
     (λ c κs. search needs)
-    (bracketed-add-t18 t)
+    (λ c. let w = within-text (c .before .before .before .before .before .before .before .before .args .s .now) (c .before .before .before .p2 .given .0 .0) (c .before .before .before .before .before .before .before .before .args .close) (sym (c .before .byte-at .ensures) ∙ c .if2 .taken) (c .before .before .before .before .before .before .before .before .pre .1 .1) in omega arith)
     (λ c. closing-bad asValue _ _ (opened-some _ _ _ _ _ (c .before .before .before .before .if1 .left)) (value-bad (c .before .before .before .expression .ensures) (c .before .p .given .1)))
     (λ c. closing-got asValue _ _ (opened-some _ _ _ _ _ (c .before .before .before .before .before .before .if1 .left)) (value-got (c .before .before .before .before .before .expression .ensures) (c .before .before .before .p2 .given .1)) (c .before .byte-at .ensures) (c .if2 .taken))
     (λ c. closing-none asValue _ _ (opened-some _ _ _ _ _ (c .before .before .before .before .before .before .if1 .left)) (value-got (c .before .before .before .before .before .expression .ensures) (c .before .before .before .p2 .given .1)) (c .before .byte-at .ensures) (c .if2 .left)))

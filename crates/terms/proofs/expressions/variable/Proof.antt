@@ -1,6 +1,6 @@
 -- `terms::expressions::variable` meets its contract. Assumes nothing.
 use borrow.Author.Needs.{needs}
-use mathlib.Core.Path.{sym, ap, _∙_}
+use mathlib.Core.Path.{ap, _∙_}
 use Rattle.terms.proofs.Answers.{variable-got, variable-bad, answer-got, answer-bad}
 use Rattle.terms.specs.declared.ReadValue.the-variants.{Got}
 use Rattle.whole.proofs.Ranges.{handed}

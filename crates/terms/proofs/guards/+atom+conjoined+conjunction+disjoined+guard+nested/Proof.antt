@@ -162,12 +162,6 @@ guard-disjoined-requires t c κs =
     let m = moves-conjunction _ _ _ _ _ (moves-opened _ _ _ (moves-expression _ _ _) _) _ (moves-opened _ _ _ (moves-guard _ _ _ _) _) _ _ _ (value-got (c .before .before .before .conjunction .ensures) (c .before .p2 .given .1)) in
     (weight-rank _ _ _ _ _ _ (c .before .before .before .before .before .pre .0) (omega arith) (omega arith), tt)
 
-nested-add-t17 : (t : ℕ) → nested-lts.Need-add-t17 (nested-claims t) (nested-at t) nested.Post
-nested-add-t17 t c =
-    let s = c .before .before .before .before .before .before .before .before in
-    let w = within-text (s .args .s .now) (c .before .before .before .p2 .given .0 .0) 41 (sym (c .before .byte-at .ensures) ∙ c .if2 .taken) (omega arith) in
-    omega arith
-
 pub +atom+conjoined+conjunction+disjoined+guard+nested-spec : {M : Type 1} → statement M
 unfolding atomBy asValue conjunctionOf disjunction
 +atom+conjoined+conjunction+disjoined+guard+nested-spec =
@@ -235,7 +229,7 @@ unfolding atomBy asValue conjunctionOf disjunction
     (λ c. search needs)
     (λ c. search needs)
     (λ c κs. search needs)
-    (nested-add-t17 t)
+    (λ c. let w = within-text (c .before .before .before .before .before .before .before .before .args .s .now) (c .before .before .before .p2 .given .0 .0) 41 (sym (c .before .byte-at .ensures) ∙ c .if2 .taken) (omega arith) in omega arith)
     (λ c. closing-bad asValue _ _ (opened-some _ _ _ _ _ (c .before .before .before .before .if1 .left)) (value-bad (c .before .before .before .guard .ensures) (c .before .p .given .1)))
     (λ c. closing-got asValue _ _ (opened-some _ _ _ _ _ (c .before .before .before .before .before .before .if1 .left)) (value-got (c .before .before .before .before .before .guard .ensures) (c .before .before .before .p2 .given .1)) (c .before .byte-at .ensures) (c .if2 .taken))
     (λ c. closing-none asValue _ _ (opened-some _ _ _ _ _ (c .before .before .before .before .before .before .if1 .left)) (value-got (c .before .before .before .before .before .guard .ensures) (c .before .before .before .p2 .given .1)) (c .before .byte-at .ensures) (c .if2 .left))

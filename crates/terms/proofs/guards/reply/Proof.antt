@@ -13,11 +13,6 @@ use Rattle.whole.specs.declared.Worked.the-variants.{Value}
 use Rattle.terms.proofs.guards.reply.Statement.{statement}
 use Rattle.terms.proofs.guards.reply.Tie as tie
 
-add-t13 : tie.Need-add-t13
-add-t13 c =
-    let w = within-text (c .before .before .before .before .before .before .before .args .s .now) (c .before .before .before .p2 .given .0 .0) 63 (sym (c .before .byte-at .ensures) ∙ c .if1 .taken) (omega arith) in
-    omega arith
-
 returns-2 : tie.Need-returns-2
 returns-2 c =
     let x = c .before .before .before .before .before .p2 .given in
@@ -32,7 +27,7 @@ reply-spec =
     (λ c. search needs)
     (λ c. search needs)
     (λ c κs. search needs)
-    add-t13
+    (λ c. let w = within-text (c .before .before .before .before .before .before .before .args .s .now) (c .before .before .before .p2 .given .0 .0) 63 (sym (c .before .byte-at .ensures) ∙ c .if1 .taken) (omega arith) in omega arith)
     (λ c κs. search needs)
     (λ c κs. search needs)
     (λ c. answer-bad _ _ _ (closed-fail _ _ _ _ (variable-bad (c .before .before .before .variable .ensures) (c .before .p .given .1))))
