@@ -5,12 +5,11 @@ use mathlib.Core.List.{List, []}
 use mathlib.Core.Option.{some}
 use mathlib.Core.Path.{_≡_, refl, sym, ap, ap₂, subst, _∙_}
 use native.Mathlib.Omega.{arith}
-use lib.ListN.{length, getD, getElem?, take, drop, length-map, length-take, length-drop}
+use lib.ListN.{length, getD, take, drop, length-map, length-take, length-drop}
 use Rattle.whole.specs.declared.Worked.{Worked}
 use Rattle.layout.specs.Layout.{Cells}
 use Rattle.terms.specs.declared.Here.{Here}
 use Rattle.terms.specs.declared.Limits.{Limits}
-use Rattle.terms.specs.declared.Variable.{Variable}
 use Rattle.terms.specs.Bytes.{Text}
 use Rattle.terms.specs.Parsed.{got, mapped}
 use Rattle.terms.specs.Trees.{trees, guardTrees}
@@ -24,7 +23,7 @@ use Rattle.code.specs.declared.Shape.the-variants as Shape
 use Rattle.code.specs.Blocks.{shapeOf, shapeNumber, untilElse, untilFi, untilOd, opening, closing, throughAll}
 use Rattle.code.specs.Partners.{goesFrom, goesTo}
 use Rattle.code.specs.Reader.{statement}
-use Rattle.code.specs.Statements.{Statement, Code, skip, set, new, call, get, await, if, else, fi, while, od, return, mapStatement, newOf}
+use Rattle.code.specs.Statements.{Statement, Code, skip, set, new, call, get, await, if, else, fi, while, od, return, mapStatement}
 use Rattle.code.specs.Vocabulary.Answers.{asStatement, argumentsOf, asCode}
 use Rattle.code.specs.Vocabulary.Readers.{statementRead}
 use Rattle.code.specs.Vocabulary.Shapes.{shapesIn}
@@ -32,16 +31,13 @@ use Rattle.code.specs.Within.{CodeWithin}
 use Rattle.code.proofs.Jumps.{partner-ahead, partner-behind}
 use Rattle.code.proofs.Respect.{statement-of-tree}
 use Rattle.code.proofs.Shapes.{shapes-length}
-use Rattle.code.proofs.Told.{new-mapped}
-use Rattle.model.specs.Accepted.{AcceptedModel, AcceptedMethod, AcceptedNew}
-use Rattle.model.specs.Model.{Class}
+use Rattle.model.specs.Accepted.{AcceptedModel, AcceptedMethod}
 use Rattle.model.specs.Vocabulary.Belonging.{valueIn}
 use Rattle.model.specs.Vocabulary.Known.{modelOf, Known}
 use Rattle.model.specs.Vocabulary.Table.{Table, rowAt, codeRow, classesIn}
-use Rattle.model.proofs.AcceptedAt.{method-accepted, line-accepted, new-accepted}
+use Rattle.model.proofs.AcceptedAt.{method-accepted, line-accepted}
 use Rattle.model.proofs.AcceptedJudged.{model-accepted}
 use Rattle.model.proofs.Lookup.{classes-at, method-at, line-at, shape-at, method-shapes}
-use Rattle.model.proofs.TableRows.{item-at}
 use Rattle.cells.specs.Standing.{shapesOf}
 use Rattle.rules.specs.Exec.{here, workedOut}
 use Rattle.rules.proofs.Executing.{item-inside}
@@ -209,23 +205,3 @@ module _ (s : Text) (t : Table) (x : List ℕ) (k : Known s t x) where
           let o = is .of in
           small-worked e _ _ (is .statement)
           (line-accepted accepted (o .index) (o .class) (o .class-there) (o .method) (o .body) (o .body-there) (d .line) (is .statement) (is .there))
-
-      -- a `new`: its class is there, and it has the arguments that the class is given
-      pub line-new : (y : Variable) (j : ℕ) (ws : List Worked) → workedOut e (is .statement) ≡ new y j ws
-          → (j < length (modelOf s)) × (kind : Class) × (getElem? (modelOf s) j ≡ some kind) × (length ws ≡ kind .given)
-      unfolding Small workedOut newOf AcceptedNew
-      line-new y j ws f =
-          let o = is .of in
-          let below : j < length (modelOf s) = subst (Small (length (modelOf s))) f line-small in
-          let kind = item-at (modelOf s) j below in
-          let of : newOf (is .statement) ≡ some (j, length ws) = sym (new-mapped (valueOf e) (guardOf e) (is .statement)) ∙ ap newOf f in (
-            below,
-            kind .0,
-            kind .1,
-            new-accepted accepted (o .index) (o .class) (o .class-there) (o .method) (o .body) (o .body-there) (d .line) (is .statement) (is .there) (j, length ws) of (kind .0) (kind .1),
-          )
-
-      -- a `call`: its method and its arguments
-      pub line-call : (y : Variable) (w : Worked) (j : ℕ) (ws : List Worked) → workedOut e (is .statement) ≡ call y w j ws → (j < 8) × (length ws ≤ 4)
-      unfolding Small
-      line-call y w j ws f = subst (Small (length (modelOf s))) f line-small

@@ -1,7 +1,6 @@
 -- What each test of the lookups says of a class, a body and a standing of the model. Assumes nothing.
-use Prim.Native.Nat.{ℕ, zero, suc, _≤_, _<_}
+use Prim.Native.Nat.{ℕ, _≤_, _<_}
 use mathlib.Core.Bool.{true, false, false≢true}
-use mathlib.Core.List.{List, [], _∷_}
 use mathlib.Core.Option.{Option, none, some}
 use mathlib.Core.Path.{_≡_, refl, sym, ap, _∙_}
 use native.Mathlib.Omega.{arith}
@@ -11,7 +10,6 @@ use lib.ListN.{length, getElem?}
 use borrow.Author.Tests.{eqb-true, eq-eqb, eqb-false, ne-eqb}
 use Rattle.whole.specs.Plain.{_>>=_}
 use Rattle.whole.specs.Whole.{natural, eqZ, between}
-use Rattle.whole.proofs.Tested.{no-some}
 use Rattle.layout.specs.Layout.{Cells, read, ofObject, ofCall, objects, class, callee, method, args, line}
 use Rattle.layout.specs.Stages.{objectOf}
 use Rattle.layout.specs.Vocabulary.Found.{asObject}
@@ -23,17 +21,12 @@ use Rattle.code.specs.Statements.{Code}
 use Rattle.model.specs.Model.{Model, Class, Method, runs, takes, methodOf, bindsTo}
 use Rattle.model.specs.Vocabulary.Table.{Table, rowAt, classRow, classesIn}
 use Rattle.model.proofs.Lookup.{classes-at, class-at}
-use Rattle.model.proofs.TableRows.{item-at}
+use Rattle.model.proofs.TableRows.{item-at, item-past}
 use Rattle.cells.specs.Standing.{bodyOf, standingOf}
 use Rattle.rules.specs.Exec.{classRuns}
+use Rattle.rules.proofs.Executing.{item-inside}
 use Rattle.lookup.specs.Vocabulary.Found.{Told, ClassSaid, taken, boundTo}
 use Rattle.lookup.specs.declared.ClassFound.the-variants as ClassFound
-
--- past a list there is no item
-item-past : {A : Type 0} (xs : List A) (i : ℕ) → length xs ≤ i → getElem? xs i ≡ none
-item-past [] i h = refl
-item-past (x ∷ xs) zero h = absurd (omega arith)
-item-past (x ∷ xs) (suc i) h = item-past xs i (omega arith)
 
 -- what gives nothing in every case gives nothing
 nothing : {A B : Type 0} (x : Option A) (k : A → Option B) → ((a : A) → k a ≡ none) → (x >>= k) ≡ none
@@ -59,16 +52,10 @@ module _ (m : Model) (z : ℤ) where
   unfolding ClassSaid
   class-is k e h = let i = item-at m k h in (e, i .0, i .1)
 
--- what was found lies within its list
-item-below : {A : Type 0} (xs : List A) (i : ℕ) (x : A) → getElem? xs i ≡ some x → i < length xs
-item-below [] i x e = absurd (no-some e)
-item-below (y ∷ xs) zero x e = omega arith
-item-below (y ∷ xs) (suc i) x e = omega (arith, item-below xs i x e)
-
 -- a class that was found is one of those that the table tells
 pub class-within : (t : Table) (told : Told t) (z : ℤ) (k : ℕ) → ClassSaid (told .model) z (ClassFound.Is k) → k < classesIn t
 unfolding ClassSaid
-class-within t told z k h = omega (arith, classes-at _ _ _ (told .rows), item-below (told .model) k (h .1) (h .2))
+class-within t told z k h = omega (arith, classes-at _ _ _ (told .rows), item-inside (told .model) k (h .1) (h .2))
 
 -- the number of an object that was found
 objectIn : ℕ → ObjectFound → ℕ

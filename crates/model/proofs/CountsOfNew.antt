@@ -18,13 +18,7 @@ use Rattle.model.specs.ModelText.{Creation, creationsOf}
 use Rattle.model.specs.Vocabulary.Table.{Table, rowAt, classRow, codeRow}
 use Rattle.model.specs.declared.Row.{Row}
 use Rattle.model.specs.declared.Verdict.{Verdict}
-use Rattle.model.proofs.TableRows.{item-at, each-at}
-
--- past a list there is no item
-item-past : {A : Type 0} (xs : List A) (i : ℕ) → length xs ≤ i → getElem? xs i ≡ none
-item-past [] i h = refl
-item-past (x ∷ xs) zero h = absurd (omega arith)
-item-past (x ∷ xs) (suc i) h = item-past xs i (omega arith)
+use Rattle.model.proofs.TableRows.{item-at, item-past, each-at}
 
 module _ (m : Model) (k : ℕ) where
   pub given-of : (c : Class) → getElem? m k ≡ some c → givenTo m k ≡ c .given

@@ -1,7 +1,7 @@
 -- A row that is put stands in its own place alone, and what holds of each item of a list. Assumes nothing.
 use Prim.Native.Nat.{ℕ, zero, suc, _+_, _*_, _≤_, _<_}
 use mathlib.Core.List.{List, [], _∷_, _++_}
-use mathlib.Core.Option.{some}
+use mathlib.Core.Option.{some, none}
 use mathlib.Core.Path.{_≡_, refl, subst, _∙_}
 use native.Mathlib.Omega.{arith}
 use lib.ListN.{length, getD, set, getElem?, length-set, length-append}
@@ -88,6 +88,12 @@ pub item-at : {A : Type 0} (xs : List A) (i : ℕ) → i < length xs → (x : A)
 item-at [] i h = absurd (omega arith)
 item-at (x ∷ xs) zero h = (x, refl)
 item-at (x ∷ xs) (suc i) h = item-at xs i (omega arith)
+
+-- past a list there is no item
+pub item-past : {A : Type 0} (xs : List A) (i : ℕ) → length xs ≤ i → getElem? xs i ≡ none
+item-past [] i h = refl
+item-past (x ∷ xs) zero h = absurd (omega arith)
+item-past (x ∷ xs) (suc i) h = item-past xs i (omega arith)
 
 -- what holds of an item, by its place and its index
 pub each-at : {A : Type 0} (P : ℕ → A → Type 0) (n : ℕ) (xs : List A) (i : ℕ) (x : A) → EachFrom P n xs → getElem? xs i ≡ some x → {k : ℕ} → n + i ≡ k → P k x
