@@ -54,8 +54,8 @@ pub enum AtomStart {
 
 // A byte as an operator, or none.
 pub enum OperatorFound {
-    Is(Operator),
     Nothing,
+    Is(Operator),
 }
 
 // "conjunctions joined by `|`; a conjunction is atoms joined by `&`"
@@ -82,6 +82,6 @@ pub enum ReadWord {
 
 // The same for an expression or a guard, with its value.
 pub enum ReadValue {
-    Got(usize, Worked),
     Bad(usize),
+    Got(usize, Worked),
 }
