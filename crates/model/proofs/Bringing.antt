@@ -13,7 +13,7 @@ use Rattle.terms.specs.Parsed.{Parsed, got, bad, word}
 use Rattle.model.specs.InOrder.{LinesRead, failed, after, Reader, done, _>>=_, Taken, wrong, right, passed, keyLine, numberLine, each}
 use Rattle.model.specs.Lines.{Line, sound, content}
 use Rattle.model.specs.Numbers.{numberIn}
-use Rattle.model.proofs.ReadBounds.{number-is}
+use Rattle.model.proofs.NumbersIn.{number-is}
 
 -- the number of a refusal
 abbrev pub Refusing : ℕ → Type 0

@@ -18,15 +18,14 @@ pub mod Lookup
 pub mod Loops
 pub mod ModelTold
 pub mod NumberLines
+pub mod NumbersIn
 pub mod OneVerdict
 pub mod Onward
 pub mod Open
 pub mod Plain
 pub mod Puts
-pub mod ReadBounds
 pub mod Session
 pub mod SoundEnds
-pub mod Straight
 pub mod TableRows
 pub mod VerdictBounds
 pub mod Verdicts

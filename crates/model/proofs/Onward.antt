@@ -10,7 +10,7 @@ use Rattle.model.specs.declared.Read.the-variants as Read
 use Rattle.model.specs.declared.Verdict.{Verdict}
 use Rattle.model.specs.InOrder.{LinesRead, failed, after, Reader, done, _>>=_}
 use Rattle.model.specs.Lines.{Line, lines}
-use Rattle.model.specs.Vocabulary.Readings.{Placed, readAt, Tells, InRange}
+use Rattle.model.specs.Vocabulary.Readings.{Placed, readAt, fault, Tells, InRange}
 
 -- one reading after another: the first is refused, or the second goes on from it
 module _ {A B : Type 0} (r : Reader A) (k : A → Reader B) (at : ℕ) (ls : List Line) where
@@ -24,9 +24,9 @@ module _ {A B : Type 0} (r : Reader A) (k : A → Reader B) (at : ℕ) (ls : Lis
 
 -- what the code gives, by its case
 module _ {A : Type 0} (s : Text) (P : A → ℕ → Type 0) (r : Read) (x : LinesRead A) (t : Tells s P r x) where
-  pub told-failed : (v : Verdict) → r ≡ Read.Failed v → x ≡ failed v
+  pub told-failed : (n : ℕ) (p : At) → r ≡ Read.Failed n p → x ≡ failed (fault s n p)
   unfolding Tells
-  told-failed v e = subst (λ q. Tells s P q x) e t
+  told-failed n p e = subst (λ q. Tells s P q x) e t
 
   pub told-got : (n : ℕ) (p : At) → r ≡ Read.Got n p → (a : A) × (x ≡ after a (p .line) (lines (drop (p .place) s))) × Placed s p × P a n
   unfolding Tells
@@ -44,9 +44,9 @@ module _ {B : Type 0} {s : Text} {y : LinesRead B} {rd rd' : Reader ℕ} {p : At
 
   module _ (low high : ℕ) {r : Read} (t : Tells s (InRange low high) r (readAt rd s p)) where
     -- it is refused
-    pub number-stops : (Q : B → ℕ → Type 0) {v : Verdict} → r ≡ Read.Failed v → Tells s Q r y
+    pub number-stops : (Q : B → ℕ → Type 0) {n : ℕ} {q : At} → r ≡ Read.Failed n q → Tells s Q r y
     unfolding Tells
-    number-stops Q f = subst (λ q. Tells s Q q y) (sym f) (here ∙ then-failed rd k _ _ _ (told-failed s _ r _ t _ f))
+    number-stops Q f = subst (λ q. Tells s Q q y) (sym f) (here ∙ then-failed rd k _ _ _ (told-failed s _ r _ t _ _ f))
 
     -- it is passed
     pub number-passed : {n : ℕ} {q : At} → r ≡ Read.Got n q → Comes s y (k n) q
@@ -58,7 +58,7 @@ module _ {B : Type 0} {s : Text} {y : LinesRead B} {rd rd' : Reader ℕ} {p : At
 pub tells-so : {A : Type 0} {s : Text} {y : LinesRead A} {rd : Reader A} {p : At} → Comes s y rd p → (P Q : A → ℕ → Type 0) (r : Read)
     → Tells s P r (readAt rd s p) → ((a : A) (n : ℕ) → P a n → Q a n) → Tells s Q r y
 unfolding Tells
-tells-so w P Q (Read.Failed v) t h = w .left ∙ t
+tells-so w P Q (Read.Failed n q) t h = w .left ∙ t
 tells-so w P Q (Read.Got n q) t h = (t .0, w .left ∙ t .1, t .2, h (t .0) n (t .3))
 
 -- or from which something is made
@@ -66,5 +66,5 @@ module _ {A B : Type 0} {s : Text} {y : LinesRead B} {p : At} (rd : Reader A) (f
     (P : A → ℕ → Type 0) (Q : B → ℕ → Type 0) where
   pub tells-made : (r : Read) → Tells s P r (readAt rd s p) → ((a : A) (n : ℕ) → P a n → Q (f a) n) → Tells s Q r y
   unfolding Tells done
-  tells-made (Read.Failed v) t h = w .left ∙ then-failed rd _ _ _ v t
+  tells-made (Read.Failed n q) t h = w .left ∙ then-failed rd _ _ _ _ t
   tells-made (Read.Got n q) t h = (f (t .0), w .left ∙ then-after rd _ _ _ _ _ _ (t .1), t .2, h (t .0) n (t .3))

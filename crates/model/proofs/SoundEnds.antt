@@ -9,7 +9,7 @@ use native.Mathlib.Omega.{arith}
 use borrow.Author.Tests.{le-leb, lt-leb, eq-eqb, ne-eqb, leb-true, leb-false}
 use lib.Dec.{leb}
 use lib.ListN.{length, take, drop, length-drop}
-use lib.Seq.{drop-cons, drop-drop}
+use lib.Seq.{drop-cons, drop-drop, getD-drop}
 use Rattle.terms.specs.Bytes.{Text, byteAt}
 use Rattle.model.specs.declared.LineFound.{LineFound}
 use Rattle.model.specs.declared.LineFound.the-variants as LineFound
@@ -137,6 +137,7 @@ pub record SoundLine (s : Text) (at end : ℕ) : Type 0 where
   pub plain : sound (terminated (take (end - at) (drop at s))) ≡ true
   pub from : at ≤ end
   pub within : end < length s
+  pub fed : byteAt s end ≡ lineFeed
 
 -- a broken line, and those behind it
 pub record BrokenLine (s : Text) (at : ℕ) : Type 0 where
@@ -159,7 +160,7 @@ content-whole : (l : Text) → content (terminated l) ≡ l
 unfolding content
 content-whole l = refl
 
-pub sound-unended : (l : Text) → sound (unterminated l) ≡ false
+sound-unended : (l : Text) → sound (unterminated l) ≡ false
 unfolding sound
 sound-unended l = refl
 
@@ -181,6 +182,7 @@ module _ (s : Text) (at : ℕ) where
         plain = ap (λ t. sound (terminated t)) front ∙ f;
         from = omega arith;
         within = omega (arith, c .within, length-drop at s);
+        fed = sym (getD-drop at s (length l) 0) ∙ c .fed;
       }
 
   pub sound-found : (end : ℕ) → soundEnd s at ≡ LineFound.Sound end → SoundLine s at end

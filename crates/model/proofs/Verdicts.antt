@@ -1,14 +1,15 @@
 -- The verdict on a text by how it ends, and the table that belongs to it where it is accepted. Assumes nothing.
 use Prim.Native.Nat.{ℕ, suc, _+_, _*_, _≤_, _<_}
-use mathlib.Core.Bool.{true, false}
+use mathlib.Core.Bool.{Bool, true, false}
 use mathlib.Core.List.{List, [], _∷_}
 use mathlib.Core.Path.{_≡_, refl, sym, ap, subst, _∙_}
 use native.Mathlib.Omega.{arith}
 use borrow.Author.Tests.{lt-ltb, le-ltb}
 use lib.ListN.{length, drop}
+use lib.Seq.{drop-cons}
 use Rattle.whole.specs.Lists.{EachFrom}
 use Rattle.whole.specs.Refusals.{textTooLong, brokenLine, wrongKey}
-use Rattle.terms.specs.Bytes.{Text}
+use Rattle.terms.specs.Bytes.{Text, byteAt}
 use Rattle.terms.specs.declared.Limits.{Limits}
 use Rattle.code.specs.Statements.{Code}
 use Rattle.model.specs.declared.At.{At}
@@ -21,13 +22,12 @@ use Rattle.model.specs.Model.{Class, Model}
 use Rattle.model.specs.ModelText.{SoFar, readModel}
 use Rattle.model.specs.Vocabulary.Belonging.{LineTold, ClassTold, Belongs, Shaped}
 use Rattle.model.specs.Vocabulary.Creations.{GivenTold}
-use Rattle.model.specs.Vocabulary.Readings.{readAt, begin}
+use Rattle.model.specs.Vocabulary.Readings.{readAt, lowestOf, fault, begin}
 use Rattle.model.specs.Vocabulary.Table.{Table, rowAt, classRow, classesIn}
 use Rattle.model.proofs.AcceptedJudged.{Ends, text-ends}
 use Rattle.model.proofs.CountsOfNew.{verdict-refusal}
-use Rattle.model.proofs.Cutting.{line-none}
+use Rattle.model.proofs.Cutting.{line-none, lines-some}
 use Rattle.model.proofs.Framing.{same-self, class-kept}
-use Rattle.model.proofs.SoundEnds.{SoundLine, BrokenLine}
 use Rattle.model.proofs.TableRows.{each-keep}
 
 -- the end of a text whose classes are all read, and the first line left over
@@ -36,14 +36,14 @@ module _ (r : Model × SoFar) (at : ℕ) where
   unfolding endJudged
   end-none = refl
 
-  module _ (l : Line) (ls : List Line) where
-    end-left : sound l ≡ true → endJudged (after r at (l ∷ ls)) ≡ refusal (record { number = wrongKey; line = at })
-    unfolding endJudged
-    end-left e = rw (e, endJudged) refl
-
-    end-broken : sound l ≡ false → endJudged (after r at (l ∷ ls)) ≡ refusal (record { number = brokenLine; line = at })
-    unfolding endJudged
-    end-broken e = rw (e, endJudged) refl
+  end-left : (l : Line) (ls : List Line) → endJudged (after r at (l ∷ ls)) ≡ refusal (record { number = lowestOf wrongKey (l ∷ ls); line = at })
+  unfolding endJudged lowestOf
+  end-left l ls = go (sound l)
+    where
+      go : (b : Bool) → (let x : Judged = elim b [ false ↦ refusal (record { number = brokenLine; line = at }) | true ↦ refusal (record { number = wrongKey; line = at }) ] in
+          x ≡ refusal (record { number = elim b [ true ↦ wrongKey | false ↦ brokenLine ]; line = at }))
+      go true = refl
+      go false = refl
 
 -- the same at a place of the text, as the code finds it
 module _ (s : Text) (r : Model × SoFar) (p : At) where
@@ -53,11 +53,11 @@ module _ (s : Text) (r : Model × SoFar) (p : At) where
   pub left-none : length s ≤ p .place → ended ≡ countsJudged (r .0) (r .1 .creations)
   left-none h = ap (λ ls. endJudged (after r (p .line) ls)) (line-none s (p .place) h) ∙ end-none r (p .line)
 
-  pub left-sound : (e : ℕ) → SoundLine s (p .place) e → ended ≡ refusal (record { number = wrongKey; line = p .line })
-  left-sound e l = ap (λ ls. endJudged (after r (p .line) ls)) (l .cut) ∙ end-left r (p .line) _ _ (l .plain)
-
-  pub left-broken : BrokenLine s (p .place) → ended ≡ refusal (record { number = brokenLine; line = p .line })
-  left-broken l = ap (λ ls. endJudged (after r (p .line) ls)) (l .cut) ∙ end-broken r (p .line) (l .first) (l .others) (l .broken)
+  pub left-some : p .place < length s → ended ≡ refusal (fault s wrongKey p)
+  left-some h =
+      let m = lines-some (byteAt s (p .place)) (drop (suc (p .place)) s) in
+      let cut : lines (drop (p .place) s) ≡ m .0 ∷ m .1 = ap lines (drop-cons s (p .place) 0 h) ∙ m .2 in
+      ap (λ ls. endJudged (after r (p .line) ls)) cut ∙ end-left r (p .line) (m .0) (m .1) ∙ ap (λ ls. refusal (record { number = lowestOf wrongKey ls; line = p .line })) (sym cut)
 
 -- a text that is too long, and any other by its lines
 pub judged-long : (s : Text) → longestText < length s → judged s ≡ refusal (record { number = textTooLong; line = 0 })

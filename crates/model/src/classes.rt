@@ -33,7 +33,7 @@ fn all_methods(
     let mut j = 0;
     while j < count {
         match methods::method(text, table, shapes, here, class, j, all) {
-            Read::Failed(verdict) => return Read::Failed(verdict),
+            Read::Failed(number, refused) => return Read::Failed(number, refused),
             Read::Got(after, next) => {
                 all = after;
                 here = next;
@@ -102,7 +102,7 @@ pub fn all_classes(text: &[u8], table: &mut [u16], shapes: &mut [u8], at: At, co
     let mut k = 0;
     while k < count {
         match class(text, table, shapes, here, count, k, all) {
-            Read::Failed(verdict) => return Read::Failed(verdict),
+            Read::Failed(number, refused) => return Read::Failed(number, refused),
             Read::Got(after, next) => {
                 all = after;
                 here = next;

@@ -6,7 +6,6 @@ use crate::MethodHead;
 use crate::Read;
 use crate::Row;
 use crate::Stated;
-use crate::Verdict;
 use crate::bounds;
 use crate::key_lines;
 use crate::table;
@@ -138,11 +137,11 @@ pub fn code_line(
     ensures { λ r. ⌜ ((total : ℕ) (bs : List Block) → blocks ≡ packedBlocks bs → Readings.Tells (now (text .entry)) (Readings.LineLeft (now (text .entry)) (now (table .entry)) (now (shapes .entry)) (now (table .exit)) (now (shapes .exit)) method i total) r (Readings.readAt (ModelText.codeLine (Standing.limitsOf method) (method .classes) (method .count) i (Readings.soFar (now (table .entry)) (method .first + i) total bs)) (now (text .entry)) at)) ⌝ }
 {
     let line = at.line;
-    match key_lines::key_line(text, at, b"code=") {
-        Keyed::Failed(verdict) => Read::Failed(verdict),
+    match key_lines::key_line(text, at.place, b"code=") {
+        Keyed::Failed(number) => Read::Failed(number, at),
         Keyed::Value(place, end) => {
             match code_value(&text[place..end], method, i + 1 == method.count, blocks) {
-                CodeFound::Refused(number) => Read::Failed(Verdict { number, line }),
+                CodeFound::Refused(number) => Read::Failed(number, at),
                 CodeFound::Is(stated) => {
                     let row = (method.first + i) as usize;
                     let long = (end - place) as u32;

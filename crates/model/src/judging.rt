@@ -47,29 +47,39 @@ fn model(text: &[u8], table: &mut [u16], shapes: &mut [u8]) -> Read
     read
 }
 
-// The end of a text whose classes are all read: "lines left over" are 3, or 2 where the first of them is broken; and only where none is left
-// the `new`s are judged.
-fn ended(text: &[u8], table: &[u16], at: At, classes: u32, total: u32) -> Verdict
-    requires { ⌜ length (now table) ≡ Table.tableSize ⌝ }
-    requires { ⌜ Readings.Placed (now text) at ⌝ }
-    requires { ⌜ (classes ≤ 16) × (total ≤ 512) ⌝ }
-    ensures { λ r. ⌜ ((m : Model) → Creations.GivenTold (now (table .entry)) m → length m ≡ classes → r ≡ Judge.verdictOf (Judge.endJudged (InOrder.after (m, Readings.between (now (table .entry)) total) (at .line) (Lines.lines (drop (at .place) (now (text .entry))))))) ⌝ }
+// The verdict on a line that a number refuses unless it is broken: "the lowest number that applies there". "a text ended early names the line
+// after its last"
+fn fault(text: &[u8], number: u32, at: At) -> Verdict
+    ensures { λ r. ⌜ r ≡ Readings.fault (now (text .entry)) number at ⌝ }
 {
     let place = at.place;
     let line = at.line;
-    if place == text.len() {
-        return creations::counts_judged(table, classes, total);
+    if place >= text.len() {
+        return Verdict {
+            number: refusals::WRONG_KEY,
+            line,
+        };
     }
     match reader::line_at(text, place) {
         LineFound::Broken => Verdict {
             number: refusals::BROKEN_LINE,
             line,
         },
-        LineFound::Sound(_) => Verdict {
-            number: refusals::WRONG_KEY,
-            line,
-        },
+        LineFound::Sound(_) => Verdict { number, line },
     }
+}
+
+// The end of a text whose classes are all read: "lines left over" are 3, or 2 where the first of them is broken; and only where none is left
+// the `new`s are judged.
+fn ended(text: &[u8], table: &[u16], at: At, classes: u32, total: u32) -> Verdict
+    requires { ⌜ length (now table) ≡ Table.tableSize ⌝ }
+    requires { ⌜ (classes ≤ 16) × (total ≤ 512) ⌝ }
+    ensures { λ r. ⌜ ((m : Model) → Creations.GivenTold (now (table .entry)) m → length m ≡ classes → r ≡ Judge.verdictOf (Judge.endJudged (InOrder.after (m, Readings.between (now (table .entry)) total) (at .line) (Lines.lines (drop (at .place) (now (text .entry))))))) ⌝ }
+{
+    if at.place < text.len() {
+        return fault(text, refusals::WRONG_KEY, at);
+    }
+    creations::counts_judged(table, classes, total)
 }
 
 // The verdict on a text, with the table and the shapes that belong to it where it is accepted.
@@ -85,7 +95,7 @@ pub fn read(text: &[u8], table: &mut [u16], shapes: &mut [u8]) -> Verdict
         };
     }
     match model(text, table, shapes) {
-        Read::Failed(verdict) => verdict,
+        Read::Failed(number, at) => fault(text, number, at),
         Read::Got(total, at) => {
             let count = table::classes(table);
             ended(text, table, at, count, total)

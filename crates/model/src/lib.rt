@@ -24,16 +24,16 @@ pub struct At {
     pub line: u32,
 }
 
-// What reading lines gives: the verdict that refuses one of them, or a number and where the next line begins. The number is the line's, the
-// open blocks after it, or how many code lines were read in all.
+// What reading lines gives: the number that refuses one of them, unless it is broken, and where it begins; or a number and where the next line
+// begins. The latter number is the line's, the open blocks after it, or how many code lines were read in all.
 pub enum Read {
-    Failed(Verdict),
+    Failed(u32, At),
     Got(u32, At),
 }
 
-// A line whose key is the expected one: where its value begins and ends; or the verdict that refuses it.
+// A line whose key is the expected one: where its value begins and ends; or the number that refuses it, unless it is broken.
 pub enum Keyed {
-    Failed(Verdict),
+    Failed(u32),
     Value(usize, usize),
 }
 

@@ -28,7 +28,7 @@ fn all_lines(text: &[u8], table: &mut [u16], shapes: &mut [u8], at: At, method: 
     let mut i = 0;
     while i < method.count {
         match code_lines::code_line(text, table, shapes, here, method, i, blocks) {
-            Read::Failed(verdict) => return Read::Failed(verdict),
+            Read::Failed(number, refused) => return Read::Failed(number, refused),
             Read::Got(after, next) => {
                 blocks = after;
                 here = next;

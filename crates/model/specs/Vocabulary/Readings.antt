@@ -1,25 +1,25 @@
--- Vocabulary of the code: what the code gives of a reading of lines: the same verdict, or the same place and what was read. Assumes nothing.
+-- Vocabulary of the code: what the code gives of a reading of lines: what refuses one of them, or the same place and what was read. Assumes nothing.
 use Prim.Native.Nat.{ℕ, _+_, _-_, _*_, _≤_, _<_}
-use mathlib.Core.Bool.{true}
+use mathlib.Core.Bool.{true, false}
 use mathlib.Core.List.{List, [], _∷_}
 use mathlib.Core.Path.{_≡_}
 use lib.Dec.{eqb}
-use lib.ListN.{length, take, drop}
+use lib.ListN.{length, drop}
 use Rattle.whole.specs.Lists.{EachFrom}
+use Rattle.whole.specs.Refusals.{brokenLine, wrongKey}
 use Rattle.terms.specs.Bytes.{Text}
 use Rattle.code.specs.Blocks.{Block}
 use Rattle.code.specs.Statements.{Code}
 use Rattle.code.specs.Vocabulary.OpenBlocks.{packedBlocks}
 use Rattle.model.specs.declared.At.{At}
 use Rattle.model.specs.declared.ClassHead.{ClassHead}
-use Rattle.model.specs.declared.Keyed.{Keyed}
-use Rattle.model.specs.declared.Keyed.the-variants as Keyed
 use Rattle.model.specs.declared.MethodHead.{MethodHead}
 use Rattle.model.specs.declared.Read.{Read}
 use Rattle.model.specs.declared.Read.the-variants as Read
+use Rattle.model.specs.declared.Verdict.{Verdict}
 use Rattle.model.specs.Bounds.{mostClasses, allLines}
-use Rattle.model.specs.InOrder.{LinesRead, failed, after, Reader, right, keyLine}
-use Rattle.model.specs.Lines.{lines, longestText, longestLine}
+use Rattle.model.specs.InOrder.{LinesRead, failed, after, Reader}
+use Rattle.model.specs.Lines.{Line, lines, sound, longestText}
 use Rattle.model.specs.Model.{Method, Class, Model}
 use Rattle.model.specs.ModelText.{SoFar, mayStand}
 use Rattle.model.specs.Vocabulary.Belonging.{MethodTold, ClassTold, LineTold}
@@ -39,20 +39,20 @@ begin = record { place = 0; line = 1 }
 abbrev pub readAt : {A : Type 0} → Reader A → Text → At → LinesRead A
 readAt r s p = r (p .line) (lines (drop (p .place) s))
 
--- what the code gives of a reading: its verdict, or a number that fits what was read, and where the lines that are left begin
+-- a line that a number refuses: "the lowest number that applies there" is that of a broken line. "a text ended early names the line after its
+-- last", which has no key
+unfoldable pub lowestOf : ℕ → List Line → ℕ
+lowestOf n [] = wrongKey
+lowestOf n (l ∷ ls) = elim (sound l) [ true ↦ n | false ↦ brokenLine ]
+
+-- the verdict on it, where it begins at a place
+abbrev pub fault : Text → ℕ → At → Verdict
+fault s n p = record { number = lowestOf n (lines (drop (p .place) s)); line = p .line }
+
+-- what the code gives of a reading: what refuses a line, or a number that fits what was read, and where the lines that are left begin
 unfoldable pub Tells : {A : Type 0} → Text → (A → ℕ → Type 0) → Read → LinesRead A → Type 0
-Tells s P (Read.Failed v) x = x ≡ failed v
+Tells s P (Read.Failed n p) x = x ≡ failed (fault s n p)
 Tells {A} s P (Read.Got n p) x = (a : A) × (x ≡ after a (p .line) (lines (drop (p .place) s))) × Placed s p × P a n
-
--- a line with a key, read for its value
-abbrev pub keyed : Text → Reader Text
-keyed key = keyLine key (λ at value. right value)
-
--- what the code gives of it: the value stands between two places, and the next line begins behind the second
-unfoldable pub KeyTold : Text → At → Keyed → LinesRead Text → Type 0
-KeyTold s at (Keyed.Failed v) x = x ≡ failed v
-KeyTold s at (Keyed.Value p e) x =
-    (x ≡ after (take (e - p) (drop p s)) (at .line + 1) (lines (drop (e + 1) s))) × (p ≤ e) × (e < length s) × (e - p ≤ longestLine) × (at .line ≤ e + 1)
 
 -- a number in its range
 abbrev pub InRange : ℕ → ℕ → ℕ → ℕ → Type 0

@@ -39,7 +39,7 @@ returns : tie.Need-returns Inv-loop μ-loop
 unfolding Tells
 returns c =
     let k = c .before .before .before .before .before .before .before in
-    passed-stopped (k .before .before .before .before .loop .inv .0) (k .before .before .before .loop-test .taken) (told-failed _ _ _ _ (k .class .ensures) _ (c .before .verdict .given .1))
+    passed-stopped (k .before .before .before .before .loop .inv .0) (k .before .before .before .loop-test .taken) (told-failed _ _ _ _ (k .class .ensures) _ _ (c .before .number .given .1))
 
 loop-again : tie.Need-loop-again Inv-loop μ-loop
 loop-again c =

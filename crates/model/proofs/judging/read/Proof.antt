@@ -4,7 +4,7 @@ use borrow.Author.Needs.{needs}
 use denote.Ref.{now}
 use lib.ListN.{drop}
 use Rattle.model.specs.InOrder.{after}
-use Rattle.model.specs.Judge.{endJudged}
+use Rattle.model.specs.Judge.{refusal, endJudged}
 use Rattle.model.specs.Lines.{lines}
 use Rattle.model.proofs.Onward.{told-failed, told-got}
 use Rattle.model.proofs.Verdicts.{judged-long, judged-short, end-failed, told-refusal, all-given, told-end}
@@ -18,10 +18,12 @@ ended-requires : tie.Need-ended-requires
 ended-requires c κs =
     let g = told-got _ _ _ _ (c .before .before .before .before .before .before .before .before .before .before .model .ensures) _ _ (c .before .before .before .before .total .given .1) in
     let e = c .before .classes .ensures ∙ g .3 .told .0 in
-    (search needs, (g .2, (rw e (g .3 .told .1), g .3 .most)))
+    (search needs, (rw e (g .3 .told .1), g .3 .most))
 
 returns-2 : tie.Need-returns-2
-returns-2 c = told-refusal _ _ _ _ (judged-short _ (c .before .before .before .before .before .before .before .before .before .before .if1 .left) ∙ ap endJudged (told-failed _ _ _ _ (c .before .before .before .before .before .before .before .model .ensures) _ (c .before .verdict .given .1)) ∙ end-failed _)
+returns-2 c =
+    let m = c .before .before .before .before .before .before .before .before in
+    told-refusal _ _ _ _ (judged-short _ (m .before .before .before .if1 .left) ∙ ap endJudged (told-failed _ _ _ _ (m .model .ensures) _ _ (c .before .before .number .given .1)) ∙ end-failed _ ∙ ap refusal (sym (c .fault .ensures)))
 
 returns-3 : tie.Need-returns-3
 returns-3 c =
@@ -45,6 +47,7 @@ read-spec =
     returns
     (λ c κs. search needs)
     (λ c. search needs)
+    (λ c κs. search needs)
     (λ c. search needs)
     (λ c κs. search needs)
     ended-requires

@@ -30,7 +30,7 @@ unfolding Tells
 returns c =
     let k = c .before .before .before .before .before .before .before in
     let i = k .before .before .before .before .before .loop .inv .0 in
-    passed-stopped (i .passed) (k .before .before .before .if1 .taken) (told-failed _ _ _ _ (k .code-line .ensures _ (i .left) (i .number)) _ (c .before .verdict .given .1))
+    passed-stopped (i .passed) (k .before .before .before .if1 .taken) (told-failed _ _ _ _ (k .code-line .ensures _ (i .left) (i .number)) _ _ (c .before .number .given .1))
 
 loop-again : tie.Need-loop-again Inv-loop μ-loop
 loop-again c =

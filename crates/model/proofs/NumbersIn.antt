@@ -1,22 +1,37 @@
--- What was read: a number, and where a key ends. Assumes nothing.
-use Prim.Native.Nat.{ℕ, _+_, _≤_, _<_}
+-- A number by the tests of its definition, and what it is if it passes them. Assumes nothing.
+use Prim.Native.Nat.{ℕ, _≤_, _<_}
 use mathlib.Core.Bool.{Bool, true, false}
-use mathlib.Core.List.{[], _∷_}
-use mathlib.Core.Option.{some}
-use mathlib.Core.Path.{_≡_, refl, sym, ap₂, _∙_}
+use mathlib.Core.Option.{none, some}
+use mathlib.Core.Path.{_≡_, refl, ap₂, _∙_}
 use native.Mathlib.Omega.{arith}
-use borrow.Author.Tests.{leb-true, leb-false, eqb-true, eqb-false}
+use borrow.Author.Tests.{eq-eqb, ne-eqb, le-leb, lt-leb, leb-true, leb-false, eqb-true, eqb-false}
 use lib.Dec.{leb, eqb}
 use lib.ListN.{length}
-use Rattle.terms.specs.Bytes.{Text, byteAt}
+use Rattle.terms.specs.Bytes.{Text}
 use Rattle.terms.specs.Leaves.{decimal}
-use Rattle.terms.specs.Parsed.{Parsed, got, bad, word}
+use Rattle.terms.specs.Parsed.{Parsed, got, bad, ended}
 use Rattle.terms.proofs.Digits.{decimal-below}
-use Rattle.terms.proofs.Moving.{within-text, no-got, same-place, word-yes, word-no, word-none}
-use Rattle.model.specs.Lines.{plainBytes}
 use Rattle.model.specs.Numbers.{numberIn}
-use Rattle.model.proofs.Plain.{first-plain, plain-bounds}
-use Rattle.model.proofs.NumberLines.{number-none, number-longer, number-below, number-within}
+
+module _ (least most : ℕ) (value : Text) where
+  -- no decimal; bytes left over; below the lowest; within
+  number-none : (at : ℕ) → decimal most value 0 ≡ bad at → numberIn least most value ≡ none
+  unfolding numberIn ended
+  number-none at e = rw (e, numberIn)
+
+  module _ (at n : ℕ) (e : decimal most value 0 ≡ got at n) where
+    number-longer : (at ≡ length value → ⊥) → numberIn least most value ≡ none
+    unfolding numberIn ended
+    number-longer h = rw (e, ne-eqb at (length value) h, numberIn)
+
+    module _ (w : at ≡ length value) where
+      number-below : n < least → numberIn least most value ≡ none
+      unfolding numberIn ended
+      number-below h = rw (e, eq-eqb at (length value) w, lt-leb least n h, numberIn)
+
+      pub number-within : least ≤ n → numberIn least most value ≡ some n
+      unfolding numberIn ended
+      number-within h = rw (e, eq-eqb at (length value) w, le-leb least n h, numberIn)
 
 -- a number of a line: a whole decimal, from its lowest to its highest
 pub number-is : (least most : ℕ) (value : Text) (n : ℕ) → numberIn least most value ≡ some n → (decimal most value 0 ≡ got (length value) n) × (least ≤ n) × (n ≤ most)
@@ -39,16 +54,3 @@ number-is least most value n e = go (decimal most value 0) refl
         test false t u v =
             let c = number-longer least most value at k f (eqb-false _ _ t) in
             absurd (let z : _≡_ {A = ℕ} 0 1 = cc in omega arith)
-
--- a word that was read ends within the text
-pub word-within : (w s : Text) (at p : ℕ) (u : Unit {0}) → plainBytes w ≡ true → at ≤ length s → word w s at ≡ got p u → p ≤ length s
-word-within [] s at p u h l e = let f = same-place at p tt u (sym (word-none s at) ∙ e) in omega arith
-word-within (b ∷ w) s at p u h l e = go (eqb (byteAt s at) b) refl (word-within w s (at + 1) p u)
-  where
-    go : (t : Bool) → eqb (byteAt s at) b ≡ t → (plainBytes w ≡ true → at + 1 ≤ length s → word w s (at + 1) ≡ got p u → p ≤ length s)
-        → p ≤ length s
-    go false f rest = absurd (no-got at p u (sym (word-no b w s at f) ∙ e))
-    go true f rest =
-        let k = first-plain b w h in
-        let n = within-text s at b (eqb-true _ _ f) (omega (arith, plain-bounds b (k .0))) in
-        rest (k .1) (omega arith) (sym (word-yes b w s at f) ∙ e)
