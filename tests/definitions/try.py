@@ -17,19 +17,19 @@ import tempfile
 HERE = pathlib.Path(__file__).resolve().parent
 ROOT = HERE.parent.parent
 # The crates whose definitions are tried, and the proof files that are tables of cases or serve them.
-TRIED = ("model", "cells", "rules", "engine", "session")
+TRIED = ("text", "model", "cells", "rules", "engine", "session")
 KEPT = ("Bounds", "Cases", "Open", "Orders", "Scene", "Session", "TextBounds")
 
 
 def blocks():
-    """The wrong definitions: a name, the crate, the file, and what is put for what."""
+    """The wrong definitions: a name, the crate, the crate of the tables, the file, and what is put for what."""
     for text in (HERE / "wrong.txt").read_text(encoding="utf-8").split("\n\n"):
         lines = [line for line in text.splitlines() if line and not line.startswith("#")]
         if lines:
             fields = [line.split(": ", 1) for line in lines[1:]]
             one = dict(fields)
             put = [[value for name, value in fields if name == said] for said in ("old", "new")]
-            yield lines[0], one["crate"], one["file"], list(zip(*put))
+            yield lines[0], one["crate"], one.get("tables", one["crate"]), one["file"], list(zip(*put))
 
 
 def stripped(crate):
@@ -72,11 +72,11 @@ def main(words):
     with tempfile.TemporaryDirectory() as folder:
         root = pathlib.Path(folder)
         copied(root)
-        for crate in sorted({block[1] for block in wrong}):
+        for crate in sorted({block[2] for block in wrong}):
             proved, _, said = checked(root, crate)
             if not proved:
                 sys.exit(f"{crate} is not proved as it stands: {said}")
-        for name, crate, file, put in wrong:
+        for name, crate, tables, file, put in wrong:
             path = root / "crates" / crate / file
             before = after = path.read_text(encoding="utf-8")
             for old, new in put:
@@ -84,7 +84,7 @@ def main(words):
                     sys.exit(f"{name}: {file} has `{old}` {after.count(old)} times")
                 after = after.replace(old, new)
             path.write_text(after, encoding="utf-8")
-            proved, fits, said = checked(root, crate)
+            proved, fits, said = checked(root, tables)
             path.write_text(before, encoding="utf-8")
             # One that is refused by itself, in its own file, shows nothing.
             standing += proved or not fits

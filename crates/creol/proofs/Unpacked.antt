@@ -6,7 +6,7 @@ use native.Mathlib.Omega.{arith}
 use lib.IntN.{ℤ}
 use Rattle.layout.specs.Layout.{Cells}
 use Rattle.terms.specs.Bytes.{Text}
-use Rattle.model.specs.declared.Verdict.{Verdict}
+use Rattle.text.specs.declared.Verdict.{Verdict}
 use Rattle.model.specs.Judge.{judge}
 use Rattle.rules.specs.declared.Choice.{Choice}
 use Rattle.engine.specs.Entries.{start, step, run, drive}

@@ -3,9 +3,9 @@
 use entries::driving;
 use entries::driving::Drove;
 use entries::running;
-use model::Verdict;
 use model::judging;
 use rules::Choice;
+use text::Verdict;
 ghost use mathlib.Core.Path.{_≡_};
 ghost use Prim.Native.Nat.{_≤_};
 ghost use Rattle.model.specs.Judge as Judge;

@@ -9,7 +9,7 @@ use lib.ListN.{length}
 use Rattle.whole.specs.Refusals.{accepted, cellsNotAll, noConfiguration, answersDiffer, budgetTooLarge}
 use Rattle.layout.specs.Layout.{Cells, allCells}
 use Rattle.terms.specs.Bytes.{Text}
-use Rattle.model.specs.declared.Verdict.{Verdict}
+use Rattle.text.specs.declared.Verdict.{Verdict}
 use Rattle.model.specs.Judge.{refusal, model, judged}
 use Rattle.model.specs.Model.{Model}
 use Rattle.cells.specs.Configuration.{isConfiguration}

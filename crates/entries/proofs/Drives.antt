@@ -9,7 +9,7 @@ use lib.Dec.{leb}
 use Rattle.whole.specs.Refusals.{accepted, budgetTooLarge}
 use Rattle.layout.specs.Layout.{Cells}
 use Rattle.terms.specs.Bytes.{Text}
-use Rattle.model.specs.declared.Verdict.{Verdict}
+use Rattle.text.specs.declared.Verdict.{Verdict}
 use Rattle.model.specs.Vocabulary.Known.{modelOf}
 use Rattle.model.specs.Vocabulary.Table.{Table}
 use Rattle.rules.specs.Kinds.{Kind, kinds}

@@ -11,7 +11,7 @@ use lib.ListN.{length}
 use Rattle.whole.specs.Refusals.{accepted, cellsNotAll, noConfiguration}
 use Rattle.layout.specs.Layout.{Cells, allCells}
 use Rattle.terms.specs.Bytes.{Text}
-use Rattle.model.specs.declared.Verdict.{Verdict}
+use Rattle.text.specs.declared.Verdict.{Verdict}
 use Rattle.model.specs.Judge.{Judged, refusal, model, judged, verdictOf, judge}
 use Rattle.model.specs.Model.{Model}
 use Rattle.model.specs.Vocabulary.Known.{Known, modelOf}

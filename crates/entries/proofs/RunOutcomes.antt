@@ -12,7 +12,7 @@ use lib.ListN.{length}
 use Rattle.whole.specs.Refusals.{accepted, answersDiffer}
 use Rattle.layout.specs.Layout.{Cells}
 use Rattle.terms.specs.Bytes.{Text}
-use Rattle.model.specs.declared.Verdict.{Verdict}
+use Rattle.text.specs.declared.Verdict.{Verdict}
 use Rattle.model.specs.Vocabulary.Known.{modelOf}
 use Rattle.model.specs.Vocabulary.Table.{Table}
 use Rattle.rules.specs.declared.Choice.{Choice}

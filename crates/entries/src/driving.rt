@@ -1,7 +1,7 @@
 // "Drive. With a budget 0..10,000 of accepted steps: each time the first accepted choice" in an order of the kinds.
-use model::Verdict;
 use model::table;
 use rules::Choice;
+use text::Verdict;
 use whole::refusals;
 ghost use mathlib.Core.Bool.{true};
 ghost use mathlib.Core.Path.{_≡_};

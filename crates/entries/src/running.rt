@@ -1,8 +1,8 @@
 // "Run. A lent list of choices, each a kind with its number, and an answers slice of the same length; each choice is one step, a refused one
 // writes its answer and the run goes on."
-use model::Verdict;
 use model::table;
 use rules::Choice;
+use text::Verdict;
 use whole::refusals;
 ghost use mathlib.Core.Bool.{true};
 ghost use mathlib.Core.Path.{_≡_};

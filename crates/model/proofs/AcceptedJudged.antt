@@ -12,9 +12,9 @@ use Rattle.whole.specs.Lists.{Every}
 use Rattle.whole.specs.Refusals.{textTooLong, brokenLine, wrongKey, wrongCode}
 use Rattle.terms.specs.Bytes.{Text}
 use Rattle.model.specs.Accepted.{AcceptedNew, AcceptedModel}
-use Rattle.model.specs.InOrder.{LinesRead, failed, after}
+use Rattle.text.specs.InOrder.{LinesRead, failed, after}
 use Rattle.model.specs.Judge.{Judged, refusal, model, givenTo, countsJudged, endJudged, judged}
-use Rattle.model.specs.Lines.{Line, terminated, unterminated, grown, lines, lineFeed, sound, longestText}
+use Rattle.text.specs.Lines.{Line, terminated, unterminated, grown, lines, lineFeed, sound, longestText}
 use Rattle.model.specs.Model.{Class, Model}
 use Rattle.model.specs.ModelText.{Creation, SoFar, readModel}
 use Rattle.model.proofs.Bringing.{Refusing, Along, Brought}

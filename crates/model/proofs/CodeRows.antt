@@ -13,11 +13,11 @@ use Rattle.code.specs.Blocks.{Block, shapeOf, through}
 use Rattle.model.specs.declared.MethodHead.{MethodHead}
 use Rattle.model.specs.declared.Row.{Row}
 use Rattle.model.specs.declared.Stated.{Stated}
-use Rattle.model.specs.InOrder.{right}
+use Rattle.text.specs.InOrder.{right}
 use Rattle.model.specs.ModelText.{SoFar, creationsOf, standing}
 use Rattle.model.specs.Vocabulary.Belonging.{valueIn, CodeTold, ShapeTold, LineTold}
 use Rattle.model.specs.Vocabulary.Creations.{creationsIn}
-use Rattle.model.specs.Vocabulary.Readings.{soFar, LineLeft}
+use Rattle.model.specs.Vocabulary.Leaving.{soFar, LineLeft}
 use Rattle.model.specs.Vocabulary.Standing.{limitsOf, valueTaken, CodeIs}
 use Rattle.model.specs.Vocabulary.Table.{Table, Sized, put, rowAt, codeRow, Same}
 use Rattle.model.proofs.CodeValues.{Taking, taking}

@@ -27,7 +27,7 @@ use Rattle.code.proofs.Shapes.{shape-of-number}
 use Rattle.code.proofs.Stacks.{all-nil, all-some}
 use Rattle.model.specs.Accepted.{AcceptedBlocks}
 use Rattle.model.specs.Bounds.{deepest}
-use Rattle.model.specs.InOrder.{wrong, right}
+use Rattle.text.specs.InOrder.{wrong, right}
 use Rattle.model.specs.ModelText.{SoFar, creationsOf, mayStand, standing, codeLine}
 use Rattle.model.proofs.Bringing.{Brings, TakenAs, brings-key, Along, InTurn}
 

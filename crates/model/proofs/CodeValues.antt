@@ -30,7 +30,7 @@ use Rattle.code.proofs.Told.{Told, told-bad, told-got}
 use Rattle.model.specs.declared.CodeFound.the-variants as Found
 use Rattle.model.specs.declared.MethodHead.{MethodHead}
 use Rattle.model.specs.declared.Stated.{Stated}
-use Rattle.model.specs.InOrder.{Taken, wrong, right}
+use Rattle.text.specs.InOrder.{Taken, wrong, right}
 use Rattle.model.specs.ModelText.{SoFar, creationsOf, mayStand, standing}
 use Rattle.model.specs.Vocabulary.Creations.{newNumber}
 use Rattle.model.specs.Vocabulary.Standing.{stood, limitsOf, valueTaken, CodeSaid}

@@ -17,7 +17,7 @@ use Rattle.model.specs.Model.{Class, Model}
 use Rattle.model.specs.ModelText.{Creation, creationsOf}
 use Rattle.model.specs.Vocabulary.Table.{Table, rowAt, classRow, codeRow}
 use Rattle.model.specs.declared.Row.{Row}
-use Rattle.model.specs.declared.Verdict.{Verdict}
+use Rattle.text.specs.declared.Verdict.{Verdict}
 use Rattle.model.proofs.TableRows.{item-at, item-past, each-at}
 
 module _ (m : Model) (k : ℕ) where

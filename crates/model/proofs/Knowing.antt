@@ -5,7 +5,7 @@ use mathlib.Core.List.{List}
 use mathlib.Core.Path.{_≡_, refl, sym, ap, _∙_}
 use native.Mathlib.Omega.{arith}
 use Rattle.terms.specs.Bytes.{Text}
-use Rattle.model.specs.declared.Verdict.{Verdict}
+use Rattle.text.specs.declared.Verdict.{Verdict}
 use Rattle.model.specs.Judge.{Judged, refusal, model, judged, verdictOf, judge}
 use Rattle.model.specs.Model.{Model}
 use Rattle.model.specs.Vocabulary.Belonging.{Belongs, Shaped}

@@ -13,21 +13,22 @@ use Rattle.code.specs.Blocks.{Block}
 use Rattle.code.specs.Statements.{Code}
 use Rattle.code.specs.Vocabulary.OpenBlocks.{packedBlocks}
 use Rattle.code.proofs.OpenBlocks.{packed-fits}
-use Rattle.model.specs.declared.At.{At}
+use Rattle.text.specs.declared.At.{At}
 use Rattle.model.specs.declared.MethodHead.{MethodHead}
-use Rattle.model.specs.declared.Read.{Read}
-use Rattle.model.specs.declared.Read.the-variants as Read
-use Rattle.model.specs.declared.Verdict.{Verdict}
-use Rattle.model.specs.InOrder.{LinesRead, failed, after, Reader, done, _>>=_, each}
-use Rattle.model.specs.Lines.{Line, lines}
+use Rattle.text.specs.declared.Read.{Read}
+use Rattle.text.specs.declared.Read.the-variants as Read
+use Rattle.text.specs.declared.Verdict.{Verdict}
+use Rattle.text.specs.InOrder.{LinesRead, failed, after, Reader, done, _>>=_, each}
+use Rattle.text.specs.Lines.{Line, lines}
 use Rattle.model.specs.ModelText.{SoFar, mayStand, codeLine}
 use Rattle.model.specs.Vocabulary.Belonging.{LineTold}
-use Rattle.model.specs.Vocabulary.Readings.{Placed, readAt, Tells, soFar, between, LineLeft, Left, CodeLeft}
+use Rattle.text.specs.Vocabulary.Readings.{Placed, readAt, Tells}
+use Rattle.model.specs.Vocabulary.Leaving.{soFar, between, LineLeft, Left, CodeLeft}
 use Rattle.model.specs.Vocabulary.Standing.{limitsOf}
 use Rattle.model.specs.Vocabulary.Table.{Table, Same}
 use Rattle.model.proofs.CodeTold.{may-depth, may-last}
 use Rattle.model.proofs.Framing.{same-self, same-then, line-kept}
-use Rattle.model.proofs.Onward.{then-failed, then-after, told-got}
+use Rattle.text.proofs.Onward.{then-failed, then-after, told-got}
 use Rattle.model.proofs.TableRows.{append-length, each-more}
 
 -- things read before others

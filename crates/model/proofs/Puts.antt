@@ -13,7 +13,7 @@ use Rattle.model.specs.Bounds.{mostClasses}
 use Rattle.model.specs.Model.{Method, Model}
 use Rattle.model.specs.ModelText.{SoFar}
 use Rattle.model.specs.Vocabulary.Belonging.{LineTold, MethodTold, ClassTold}
-use Rattle.model.specs.Vocabulary.Readings.{Left, CodeLeft, MethodLeft, MethodsLeft, ClassLeft, ClassesLeft, ModelLeft}
+use Rattle.model.specs.Vocabulary.Leaving.{Left, CodeLeft, MethodLeft, MethodsLeft, ClassLeft, ClassesLeft, ModelLeft}
 use Rattle.model.specs.Vocabulary.Table.{Table, Same, put, classRow, methodRow, modelRow, classesIn, tableSize}
 use Rattle.model.proofs.Framing.{same-self, same-then, same-put, line-kept, method-kept, class-kept, news-kept}
 use Rattle.model.proofs.TableRows.{row-own, each-keep}

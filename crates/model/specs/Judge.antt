@@ -7,9 +7,9 @@ use lib.Dec.{ltb, eqb}
 use lib.ListN.{length, getElem?}
 use Rattle.whole.specs.Refusals.{accepted, textTooLong, brokenLine, wrongKey, wrongCode}
 use Rattle.terms.specs.Bytes.{Text}
-use Rattle.model.specs.declared.Verdict.{Verdict}
-use Rattle.model.specs.InOrder.{LinesRead, failed, after}
-use Rattle.model.specs.Lines.{lines, sound, longestText}
+use Rattle.text.specs.declared.Verdict.{Verdict}
+use Rattle.text.specs.InOrder.{LinesRead, failed, after}
+use Rattle.text.specs.Lines.{lines, sound, longestText}
 use Rattle.model.specs.Model.{Model}
 use Rattle.model.specs.ModelText.{Creation, SoFar, readModel}
 

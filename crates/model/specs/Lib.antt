@@ -1,10 +1,7 @@
--- The model text: its lines, their reading in the document's order, the verdict, the model that an accepted text gives, and what it is like. The
+-- The model text: its reading in the document's order, the verdict, the model that an accepted text gives, and what it is like. The
 -- modules stand in the order of reading; Vocabulary is the code's.
 pub mod Bounds
-pub mod Lines
-pub mod Numbers
 pub mod Model
-pub mod InOrder
 pub mod ModelText
 pub mod Judge
 pub mod Accepted

@@ -16,7 +16,7 @@ use Rattle.code.specs.Blocks.{Block, isShape, shapeOf, through}
 use Rattle.code.specs.Reader.{statement}
 use Rattle.code.specs.Statements.{Code, newOf}
 use Rattle.model.specs.Bounds.{edition, mostClasses, mostMethods, mostParams, mostLines, allLines, deepest}
-use Rattle.model.specs.InOrder.{Reader, done, _>>=_, Taken, wrong, right, keyLine, numberLine, each}
+use Rattle.text.specs.InOrder.{Reader, done, _>>=_, Taken, wrong, right, keyLine, numberLine, each}
 use Rattle.model.specs.Model.{Method, Class, Model}
 
 -- a `new` with the line that it stands at

@@ -2,9 +2,7 @@
 -- document 01 uses it.
 pub mod Belonging
 pub mod Creations
-pub mod KeyLines
 pub mod Known
-pub mod LineEnds
-pub mod Readings
+pub mod Leaving
 pub mod Standing
 pub mod Table

@@ -1,16 +1,17 @@
 // "then per class `class=` (its index from 0), `attrs=`, `given=`, `run=`, `methods=`", and that many methods.
-use crate::At;
 use crate::ClassHead;
-use crate::Read;
 use crate::Row;
 use crate::bounds;
-use crate::key_lines;
 use crate::methods;
 use crate::table;
+use text::At;
+use text::Read;
+use text::key_lines;
 ghost use Prim.Native.Nat.{_≤_, _<_};
-ghost use Rattle.model.specs.InOrder as InOrder;
+ghost use Rattle.text.specs.InOrder as InOrder;
 ghost use Rattle.model.specs.ModelText as ModelText;
-ghost use Rattle.model.specs.Vocabulary.Readings as Readings;
+ghost use Rattle.text.specs.Vocabulary.Readings as Readings;
+ghost use Rattle.model.specs.Vocabulary.Leaving as Leaving;
 ghost use Rattle.model.specs.Vocabulary.Table as Table;
 
 // So many methods, after so many code lines.
@@ -26,7 +27,7 @@ fn all_methods(
     requires { ⌜ Table.Sized (now table) (now shapes) ⌝ }
     requires { ⌜ Readings.Placed (now text) at ⌝ }
     requires { ⌜ (class .index < class .classes) × (class .classes ≤ 16) × (count ≤ 8) × (total ≤ 512) ⌝ }
-    ensures { λ r. ⌜ Readings.Tells (now (text .entry)) (Readings.MethodsLeft (now (text .entry)) (now (table .entry)) (now (shapes .entry)) (now (table .exit)) (now (shapes .exit)) class count total) r (Readings.readAt (InOrder.each count 0 (Readings.between (now (table .entry)) total) (ModelText.readMethod (class .classes) (class .attrs) (class .run))) (now (text .entry)) at) ⌝ }
+    ensures { λ r. ⌜ Readings.Tells (now (text .entry)) (Leaving.MethodsLeft (now (text .entry)) (now (table .entry)) (now (shapes .entry)) (now (table .exit)) (now (shapes .exit)) class count total) r (Readings.readAt (InOrder.each count 0 (Leaving.between (now (table .entry)) total) (ModelText.readMethod (class .classes) (class .attrs) (class .run))) (now (text .entry)) at) ⌝ }
 {
     let mut here = at;
     let mut all = total;
@@ -57,7 +58,7 @@ pub fn class(
     requires { ⌜ Table.Sized (now table) (now shapes) ⌝ }
     requires { ⌜ Readings.Placed (now text) at ⌝ }
     requires { ⌜ (k < classes) × (classes ≤ 16) × (total ≤ 512) ⌝ }
-    ensures { λ r. ⌜ Readings.Tells (now (text .entry)) (Readings.ClassLeft (now (text .entry)) (now (table .entry)) (now (shapes .entry)) (now (table .exit)) (now (shapes .exit)) classes k total) r (Readings.readAt (ModelText.readClass classes k (Readings.between (now (table .entry)) total)) (now (text .entry)) at) ⌝ }
+    ensures { λ r. ⌜ Readings.Tells (now (text .entry)) (Leaving.ClassLeft (now (text .entry)) (now (table .entry)) (now (shapes .entry)) (now (table .exit)) (now (shapes .exit)) classes k total) r (Readings.readAt (ModelText.readClass classes k (Leaving.between (now (table .entry)) total)) (now (text .entry)) at) ⌝ }
 {
     let read = key_lines::number_line(text, at, b"class=", k, k);
     let Read::Got(_, at) = read else {
@@ -95,7 +96,7 @@ pub fn all_classes(text: &[u8], table: &mut [u16], shapes: &mut [u8], at: At, co
     requires { ⌜ Table.Sized (now table) (now shapes) ⌝ }
     requires { ⌜ Readings.Placed (now text) at ⌝ }
     requires { ⌜ count ≤ 16 ⌝ }
-    ensures { λ r. ⌜ Readings.Tells (now (text .entry)) (Readings.ClassesLeft (now (text .entry)) (now (table .entry)) (now (shapes .entry)) (now (table .exit)) (now (shapes .exit)) count count) r (Readings.readAt (InOrder.each count 0 (Readings.between (now (table .entry)) 0) (ModelText.readClass count)) (now (text .entry)) at) ⌝ }
+    ensures { λ r. ⌜ Readings.Tells (now (text .entry)) (Leaving.ClassesLeft (now (text .entry)) (now (table .entry)) (now (shapes .entry)) (now (table .exit)) (now (shapes .exit)) count count) r (Readings.readAt (InOrder.each count 0 (Leaving.between (now (table .entry)) 0) (ModelText.readClass count)) (now (text .entry)) at) ⌝ }
 {
     let mut here = at;
     let mut all = 0;

@@ -1,13 +1,9 @@
 // "`code=`": a statement that may stand where it stands, with its row and its shape.
-use crate::At;
 use crate::CodeFound;
-use crate::Keyed;
 use crate::MethodHead;
-use crate::Read;
 use crate::Row;
 use crate::Stated;
 use crate::bounds;
-use crate::key_lines;
 use crate::table;
 use code::BlocksAfter;
 use code::NewFound;
@@ -21,13 +17,15 @@ use layout::ObjectNumber;
 use terms::Around;
 use terms::Here;
 use terms::Limits;
+use text::At;
+use text::Keyed;
+use text::Read;
+use text::key_lines;
 use whole::refusals;
-ghost use mathlib.Core.Bool.{Bool};
 ghost use mathlib.Core.List.{List};
 ghost use mathlib.Core.Option.{Option};
 ghost use mathlib.Core.Path.{_≡_};
 ghost use Prim.Native.Nat.{ℕ, _+_, _*_, _≤_, _<_};
-ghost use lib.Dec.{eqb};
 ghost use lib.ListN.{length};
 ghost use Rattle.code.specs.declared.NewFound.the-variants as New;
 ghost use Rattle.code.specs.Blocks.{Block, shapeOf, through};
@@ -36,7 +34,8 @@ ghost use Rattle.code.specs.Vocabulary.Creating.{asNew};
 ghost use Rattle.code.specs.Vocabulary.OpenBlocks.{packedBlocks, asBlocks};
 ghost use Rattle.model.specs.ModelText as ModelText;
 ghost use Rattle.model.specs.Vocabulary.Creations as Creations;
-ghost use Rattle.model.specs.Vocabulary.Readings as Readings;
+ghost use Rattle.text.specs.Vocabulary.Readings as Readings;
+ghost use Rattle.model.specs.Vocabulary.Leaving as Leaving;
 ghost use Rattle.model.specs.Vocabulary.Standing as Standing;
 ghost use Rattle.model.specs.Vocabulary.Table as Table;
 
@@ -134,7 +133,7 @@ pub fn code_line(
     requires { ⌜ Readings.Placed (now text) at ⌝ }
     requires { ⌜ (0 < method .classes) × (method .classes ≤ 16) × (method .first + i < 512) ⌝ }
     requires { ⌜ blocks < 65536 ⌝ }
-    ensures { λ r. ⌜ ((total : ℕ) (bs : List Block) → blocks ≡ packedBlocks bs → Readings.Tells (now (text .entry)) (Readings.LineLeft (now (text .entry)) (now (table .entry)) (now (shapes .entry)) (now (table .exit)) (now (shapes .exit)) method i total) r (Readings.readAt (ModelText.codeLine (Standing.limitsOf method) (method .classes) (method .count) i (Readings.soFar (now (table .entry)) (method .first + i) total bs)) (now (text .entry)) at)) ⌝ }
+    ensures { λ r. ⌜ ((total : ℕ) (bs : List Block) → blocks ≡ packedBlocks bs → Readings.Tells (now (text .entry)) (Leaving.LineLeft (now (text .entry)) (now (table .entry)) (now (shapes .entry)) (now (table .exit)) (now (shapes .exit)) method i total) r (Readings.readAt (ModelText.codeLine (Standing.limitsOf method) (method .classes) (method .count) i (Leaving.soFar (now (table .entry)) (method .first + i) total bs)) (now (text .entry)) at)) ⌝ }
 {
     let line = at.line;
     match key_lines::key_line(text, at.place, b"code=") {

@@ -1,7 +1,7 @@
 // "a wrong count of its arguments is 5 at its line, judged only in a text that passes otherwise"
-use crate::Verdict;
 use crate::bounds;
 use crate::table;
+use text::Verdict;
 use whole::refusals;
 ghost use mathlib.Core.Path.{_≡_};
 ghost use Prim.Native.Nat.{_≤_};

@@ -1,27 +1,26 @@
 // The verdict on every list of bytes, and the table of a text that is accepted.
-use crate::At;
-use crate::LineFound;
-use crate::Read;
 use crate::Row;
-use crate::Verdict;
 use crate::bounds;
 use crate::classes;
 use crate::creations;
-use crate::key_lines;
-use crate::reader;
 use crate::table;
+use text::At;
+use text::Read;
+use text::Verdict;
+use text::key_lines;
 use whole::refusals;
 ghost use mathlib.Core.Path.{_≡_};
 ghost use Prim.Native.Nat.{_≤_};
 ghost use lib.ListN.{length, drop};
-ghost use Rattle.model.specs.InOrder as InOrder;
+ghost use Rattle.text.specs.InOrder as InOrder;
 ghost use Rattle.model.specs.Judge as Judge;
-ghost use Rattle.model.specs.Lines as Lines;
+ghost use Rattle.text.specs.Lines as Lines;
 ghost use Rattle.model.specs.Model.{Model};
 ghost use Rattle.model.specs.ModelText as ModelText;
 ghost use Rattle.model.specs.Vocabulary.Belonging as Belonging;
 ghost use Rattle.model.specs.Vocabulary.Creations as Creations;
-ghost use Rattle.model.specs.Vocabulary.Readings as Readings;
+ghost use Rattle.text.specs.Vocabulary.Readings as Readings;
+ghost use Rattle.model.specs.Vocabulary.Leaving as Leaving;
 ghost use Rattle.model.specs.Vocabulary.Table as Table;
 
 // "At most 32,768 bytes"
@@ -31,7 +30,7 @@ const LONGEST_TEXT: usize = 32768;
 fn model(text: &[u8], table: &mut [u16], shapes: &mut [u8]) -> Read
     requires { ⌜ Table.Sized (now table) (now shapes) ⌝ }
     requires { ⌜ length (now text) ≤ Lines.longestText ⌝ }
-    ensures { λ r. ⌜ Readings.Tells (now (text .entry)) (Readings.ModelLeft (now (text .entry)) (now (table .entry)) (now (shapes .entry)) (now (table .exit)) (now (shapes .exit))) r (Readings.readAt ModelText.readModel (now (text .entry)) Readings.begin) ⌝ }
+    ensures { λ r. ⌜ Readings.Tells (now (text .entry)) (Leaving.ModelLeft (now (text .entry)) (now (table .entry)) (now (shapes .entry)) (now (table .exit)) (now (shapes .exit))) r (Readings.readAt ModelText.readModel (now (text .entry)) Readings.begin) ⌝ }
 {
     let at = At { place: 0, line: 1 };
     let read = key_lines::number_line(text, at, b"creol=", bounds::EDITION, bounds::EDITION);
@@ -47,37 +46,15 @@ fn model(text: &[u8], table: &mut [u16], shapes: &mut [u8]) -> Read
     read
 }
 
-// The verdict on a line that a number refuses unless it is broken: "the lowest number that applies there". "a text ended early names the line
-// after its last"
-fn fault(text: &[u8], number: u32, at: At) -> Verdict
-    ensures { λ r. ⌜ r ≡ Readings.fault (now (text .entry)) number at ⌝ }
-{
-    let place = at.place;
-    let line = at.line;
-    if place >= text.len() {
-        return Verdict {
-            number: refusals::WRONG_KEY,
-            line,
-        };
-    }
-    match reader::line_at(text, place) {
-        LineFound::Broken => Verdict {
-            number: refusals::BROKEN_LINE,
-            line,
-        },
-        LineFound::Sound(_) => Verdict { number, line },
-    }
-}
-
 // The end of a text whose classes are all read: "lines left over" are 3, or 2 where the first of them is broken; and only where none is left
 // the `new`s are judged.
 fn ended(text: &[u8], table: &[u16], at: At, classes: u32, total: u32) -> Verdict
     requires { ⌜ length (now table) ≡ Table.tableSize ⌝ }
     requires { ⌜ (classes ≤ 16) × (total ≤ 512) ⌝ }
-    ensures { λ r. ⌜ ((m : Model) → Creations.GivenTold (now (table .entry)) m → length m ≡ classes → r ≡ Judge.verdictOf (Judge.endJudged (InOrder.after (m, Readings.between (now (table .entry)) total) (at .line) (Lines.lines (drop (at .place) (now (text .entry))))))) ⌝ }
+    ensures { λ r. ⌜ ((m : Model) → Creations.GivenTold (now (table .entry)) m → length m ≡ classes → r ≡ Judge.verdictOf (Judge.endJudged (InOrder.after (m, Leaving.between (now (table .entry)) total) (at .line) (Lines.lines (drop (at .place) (now (text .entry))))))) ⌝ }
 {
     if at.place < text.len() {
-        return fault(text, refusals::WRONG_KEY, at);
+        return key_lines::fault(text, refusals::WRONG_KEY, at);
     }
     creations::counts_judged(table, classes, total)
 }
@@ -95,7 +72,7 @@ pub fn read(text: &[u8], table: &mut [u16], shapes: &mut [u8]) -> Verdict
         };
     }
     match model(text, table, shapes) {
-        Read::Failed(number, at) => fault(text, number, at),
+        Read::Failed(number, at) => key_lines::fault(text, number, at),
         Read::Got(total, at) => {
             let count = table::classes(table);
             ended(text, table, at, count, total)

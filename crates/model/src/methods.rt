@@ -1,18 +1,19 @@
 // "then per method `method=` (index from 0), `params=`, `locals=`, `lines=`, and that many `code=` lines."
-use crate::At;
 use crate::ClassHead;
 use crate::MethodHead;
-use crate::Read;
 use crate::Row;
 use crate::bounds;
 use crate::code_lines;
-use crate::key_lines;
 use crate::table;
+use text::At;
+use text::Read;
+use text::key_lines;
 ghost use mathlib.Core.List.{[]};
-ghost use Prim.Native.Nat.{_+_, _*_, _≤_, _<_};
-ghost use Rattle.model.specs.InOrder as InOrder;
+ghost use Prim.Native.Nat.{_+_, _≤_, _<_};
+ghost use Rattle.text.specs.InOrder as InOrder;
 ghost use Rattle.model.specs.ModelText as ModelText;
-ghost use Rattle.model.specs.Vocabulary.Readings as Readings;
+ghost use Rattle.text.specs.Vocabulary.Readings as Readings;
+ghost use Rattle.model.specs.Vocabulary.Leaving as Leaving;
 ghost use Rattle.model.specs.Vocabulary.Standing as Standing;
 ghost use Rattle.model.specs.Vocabulary.Table as Table;
 
@@ -21,7 +22,7 @@ fn all_lines(text: &[u8], table: &mut [u16], shapes: &mut [u8], at: At, method: 
     requires { ⌜ Table.Sized (now table) (now shapes) ⌝ }
     requires { ⌜ Readings.Placed (now text) at ⌝ }
     requires { ⌜ (0 < method .classes) × (method .classes ≤ 16) × (0 < method .count) × (method .first + method .count ≤ 512) ⌝ }
-    ensures { λ r. ⌜ Readings.Tells (now (text .entry)) (Readings.CodeLeft (now (text .entry)) (now (table .entry)) (now (shapes .entry)) (now (table .exit)) (now (shapes .exit)) method) r (Readings.readAt (InOrder.each (method .count) 0 (Readings.soFar (now (table .entry)) (method .first) (method .first + method .count) []) (ModelText.codeLine (Standing.limitsOf method) (method .classes) (method .count))) (now (text .entry)) at) ⌝ }
+    ensures { λ r. ⌜ Readings.Tells (now (text .entry)) (Leaving.CodeLeft (now (text .entry)) (now (table .entry)) (now (shapes .entry)) (now (table .exit)) (now (shapes .exit)) method) r (Readings.readAt (InOrder.each (method .count) 0 (Leaving.soFar (now (table .entry)) (method .first) (method .first + method .count) []) (ModelText.codeLine (Standing.limitsOf method) (method .classes) (method .count))) (now (text .entry)) at) ⌝ }
 {
     let mut here = at;
     let mut blocks = 0;
@@ -52,7 +53,7 @@ pub fn method(
     requires { ⌜ Table.Sized (now table) (now shapes) ⌝ }
     requires { ⌜ Readings.Placed (now text) at ⌝ }
     requires { ⌜ (class .index < class .classes) × (class .classes ≤ 16) × (j < 8) × (total ≤ 512) ⌝ }
-    ensures { λ r. ⌜ Readings.Tells (now (text .entry)) (Readings.MethodLeft (now (text .entry)) (now (table .entry)) (now (shapes .entry)) (now (table .exit)) (now (shapes .exit)) class j total) r (Readings.readAt (ModelText.readMethod (class .classes) (class .attrs) (class .run) j (Readings.between (now (table .entry)) total)) (now (text .entry)) at) ⌝ }
+    ensures { λ r. ⌜ Readings.Tells (now (text .entry)) (Leaving.MethodLeft (now (text .entry)) (now (table .entry)) (now (shapes .entry)) (now (table .exit)) (now (shapes .exit)) class j total) r (Readings.readAt (ModelText.readMethod (class .classes) (class .attrs) (class .run) j (Leaving.between (now (table .entry)) total)) (now (text .entry)) at) ⌝ }
 {
     let read = key_lines::number_line(text, at, b"method=", j, j);
     let Read::Got(_, at) = read else {

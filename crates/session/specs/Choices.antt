@@ -8,7 +8,7 @@ use lib.IntN.{pos}
 use lib.ListN.{length, take, drop}
 use Rattle.terms.specs.Bytes.{Text, bytes, digit}
 use Rattle.terms.specs.Parsed.{got, bad, word}
-use Rattle.model.specs.Lines.{lines, content}
+use Rattle.text.specs.Lines.{lines, content}
 use Rattle.rules.specs.declared.Choice.{Choice}
 use Rattle.rules.specs.Kinds.{Kind, exec, arrive, bind, start, deliver, kinds, choose}
 

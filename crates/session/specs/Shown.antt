@@ -5,7 +5,7 @@ use mathlib.Core.Bool.{true, false}
 use mathlib.Core.List.{[], _∷_, _++_}
 use lib.Dec.{ltb}
 use Rattle.terms.specs.Bytes.{Text}
-use Rattle.model.specs.Lines.{lineFeed}
+use Rattle.text.specs.Lines.{lineFeed}
 
 -- the digits of a number before some bytes; each turn leaves a tenth, so that there are more turns than digits
 unfoldable pub shownFrom : ℕ → ℕ → Text → Text

@@ -10,8 +10,8 @@ use lib.Dec.{eqb}
 use lib.ListN.{length, take, drop, drop-of-length-le}
 use lib.Seq.{drop-cons, drop-drop}
 use Rattle.terms.specs.Bytes.{Text, byteAt}
-use Rattle.model.specs.Lines.{Line, terminated, unterminated, grown, lines, content, lineFeed}
-use Rattle.model.proofs.Cutting.{lines-first, lines-later, grown-none, grown-whole, grown-unended, lines-none}
+use Rattle.text.specs.Lines.{Line, terminated, unterminated, grown, lines, content, lineFeed}
+use Rattle.text.proofs.Cutting.{lines-first, lines-later, grown-none, grown-whole, grown-unended, lines-none}
 use Rattle.rules.specs.declared.Choice.{Choice}
 use Rattle.rules.specs.Kinds.{kinds}
 use Rattle.session.specs.Choices.{choiceOf, longestInput, choicesFrom}

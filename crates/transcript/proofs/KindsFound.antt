@@ -9,8 +9,8 @@ use lib.ListN.{length, drop, getD, drop-of-length-le}
 use lib.Seq.{drop-cons}
 use Rattle.terms.specs.Bytes.{Text}
 use Rattle.terms.specs.Parsed.{got, bad, word}
-use Rattle.model.specs.Lines.{plainByte, plainBytes}
-use Rattle.model.proofs.KeyLines.{word-within}
+use Rattle.text.specs.Lines.{plainByte, plainBytes}
+use Rattle.text.proofs.KeyLines.{word-within}
 use Rattle.rules.specs.Kinds.{Kind, exec, arrive, bind, start, deliver, kinds, kindNumber}
 use Rattle.session.specs.Choices.{kindName, noChoice, choiceOf, digitsAlone}
 use Rattle.transcript.specs.Vocabulary.KindNames.{kindAt, chosen}

@@ -8,7 +8,7 @@ use lib.ListN.{length}
 use Rattle.whole.specs.Refusals.{accepted}
 use Rattle.layout.specs.Layout.{Cells, allCells}
 use Rattle.terms.specs.Bytes.{Text}
-use Rattle.model.specs.declared.Verdict.{Verdict}
+use Rattle.text.specs.declared.Verdict.{Verdict}
 use Rattle.model.specs.Judge.{Judged, refusal, model, judged}
 use Rattle.model.specs.Model.{Model}
 use Rattle.model.proofs.AcceptedJudged.{model-accepted}

@@ -1,7 +1,7 @@
 // "It writes an `answer=` line for each choice", then how many were accepted and refused, and the objects and calls; or of a refused model
 // "only `refused=` and `line=`".
 use crate::shown;
-use model::Verdict;
+use text::Verdict;
 use whole::Natural;
 use whole::refusals;
 ghost use mathlib.Core.Path.{_≡_};

@@ -41,9 +41,9 @@ use denote.Triple.Table.{entered, cited}
 use denote.Triple.Walked.{says, Stays, stay-none-slice, gave-slice, walkOf, goes-none-slice, goes-gave-slice, onExit, Walks, ends-at, walked, walk-meets}
 use denote.Exit.{yes}
 use denote.Triple.Clauses.{Lasts, ensured, lasts}
-use Rattle.model.specs.declared.Verdict.{Verdict}
-use Rattle.model.proofs.Verdict as verdict
-use Rattle.model.proofs.Verdict.Laws as verdict-laws
+use Rattle.text.specs.declared.Verdict.{Verdict}
+use Rattle.text.proofs.Verdict as verdict
+use Rattle.text.proofs.Verdict.Laws as verdict-laws
 use Rattle.rules.specs.declared.Choice.{Choice}
 use Rattle.rules.proofs.Choice as choice
 use Rattle.engine.specs.Entries as Entries

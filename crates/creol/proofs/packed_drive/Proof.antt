@@ -4,7 +4,7 @@ use Prim.Native.Nat.{ℕ, _+_, _*_, _^_}
 use mathlib.Core.Bool.{false}
 use mathlib.Core.Path.{_≡_, sym, ap, _∙_}
 use native.Mathlib.Omega.{arith}
-use Rattle.model.specs.declared.Verdict.{Verdict}
+use Rattle.text.specs.declared.Verdict.{Verdict}
 use Rattle.creol.specs.Vocabulary.Packed.{packed, quietly, packedDrive}
 use Rattle.creol.proofs.packed_drive.Statement.{statement}
 use Rattle.creol.proofs.packed_drive.Tie as tie

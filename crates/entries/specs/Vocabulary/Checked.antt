@@ -10,7 +10,7 @@ use lib.ListN.{length}
 use Rattle.whole.specs.Refusals.{accepted}
 use Rattle.layout.specs.Layout.{Cells, allCells}
 use Rattle.terms.specs.Bytes.{Text}
-use Rattle.model.specs.declared.Verdict.{Verdict}
+use Rattle.text.specs.declared.Verdict.{Verdict}
 use Rattle.model.specs.Model.{Model}
 use Rattle.model.specs.Vocabulary.Known.{Known, modelOf}
 use Rattle.model.specs.Vocabulary.Table.{Table}

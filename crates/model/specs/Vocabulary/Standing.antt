@@ -19,7 +19,7 @@ use Rattle.model.specs.declared.CodeFound.the-variants as Found
 use Rattle.model.specs.declared.MethodHead.{MethodHead}
 use Rattle.model.specs.declared.Stated.{Stated}
 use Rattle.model.specs.Bounds.{mostClasses}
-use Rattle.model.specs.InOrder.{Taken, wrong}
+use Rattle.text.specs.InOrder.{Taken, wrong}
 use Rattle.model.specs.ModelText.{Creation, SoFar, mayStand, standing}
 use Rattle.model.specs.Vocabulary.Creations.{newNumber}
 

@@ -4,7 +4,7 @@ use mathlib.Core.Bool.{true, false}
 use mathlib.Core.List.{[], _∷_}
 use lib.Dec.{eqb}
 use Rattle.terms.specs.Bytes.{Text}
-use Rattle.model.specs.Lines.{lineFeed}
+use Rattle.text.specs.Lines.{lineFeed}
 
 -- the bytes before the first LF, or before the end
 unfoldable pub lineLength : Text → ℕ

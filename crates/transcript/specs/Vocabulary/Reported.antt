@@ -3,7 +3,7 @@ use mathlib.Core.List.{_++_}
 use lib.IntN.{ℤ}
 use Rattle.whole.specs.Whole.{nat}
 use Rattle.terms.specs.Bytes.{Text, bytes}
-use Rattle.model.specs.declared.Verdict.{Verdict}
+use Rattle.text.specs.declared.Verdict.{Verdict}
 use Rattle.session.specs.Shown.{shownLine}
 
 -- the line of an answer

@@ -49,9 +49,9 @@ use denote.Triple.Walked.{Stays, stay-none-slice, gave-slice, walkOf, goes-none-
 use denote.Exit.{yes}
 use denote.Signature.{plain, typesAt}
 use Rattle.model.specs.Vocabulary.Known.{Known, modelOf}
-use Rattle.model.specs.declared.Verdict.{Verdict}
-use Rattle.model.proofs.Verdict as verdict
-use Rattle.model.proofs.Verdict.Laws as verdict-laws
+use Rattle.text.specs.declared.Verdict.{Verdict}
+use Rattle.text.proofs.Verdict as verdict
+use Rattle.text.proofs.Verdict.Laws as verdict-laws
 use Rattle.rules.specs.declared.Choice.{Choice}
 use Rattle.rules.proofs.Choice as choice
 use Rattle.cells.specs.Configuration.{isConfiguration}

@@ -2,7 +2,7 @@
 use mathlib.Core.Path.{sym, ap, _∙_}
 use denote.Ref.{now}
 use Rattle.model.specs.Judge.{verdictOf}
-use Rattle.model.specs.Vocabulary.Readings.{between}
+use Rattle.model.specs.Vocabulary.Leaving.{between}
 use Rattle.model.proofs.CountsOfNew.{verdict-refusal}
 use Rattle.model.proofs.Verdicts.{left-none, left-some}
 use borrow.Author.Needs.{needs}

@@ -1,10 +1,10 @@
 -- `model::methods::all_lines` meets its contract. The invariant: what is left of the code lines decides. Assumes nothing.
 use Prim.Native.Nat.{_-_}
 use borrow.Author.Needs.{needs}
-use Rattle.model.specs.Vocabulary.Readings.{Tells}
+use Rattle.text.specs.Vocabulary.Readings.{Tells}
 use Rattle.model.specs.Vocabulary.Table.{Sized}
 use Rattle.model.proofs.Loops.{passed-stopped, LinesPassed, lines-begun, lines-onward, lines-all}
-use Rattle.model.proofs.Onward.{told-failed}
+use Rattle.text.proofs.Onward.{told-failed}
 use Rattle.model.proofs.methods.all_lines.Statement.{statement}
 use Rattle.model.proofs.methods.all_lines.Tie as tie
 

@@ -1,0 +1,11 @@
+-- What the proofs of this crate and of those above it cite.
+mod Cases
+mod ReaderWalks
+pub mod Cutting
+pub mod KeyLines
+pub mod NumberLines
+pub mod NumbersIn
+pub mod Onward
+pub mod Open
+pub mod Plain
+pub mod SoundEnds
