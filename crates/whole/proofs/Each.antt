@@ -1,12 +1,11 @@
 -- A test that holds of all numbers of a range holds of each of them, and the converse. Assumes nothing.
 use Prim.Native.Nat.{ℕ, zero, suc, _≤_, _<_}
 use mathlib.Core.Bool.{Bool, true, false, false≢true}
-use mathlib.Core.Logic.{⊎-elim}
-use mathlib.Core.Path.{_≡_, refl, sym, ap, subst, _∙_}
+use mathlib.Core.Path.{_≡_, refl, sym, subst}
 use native.Mathlib.Omega.{arith}
 use lib.Dec.{eqb}
 use borrow.Author.Tests.{eqb-true, eqb-false}
-use Rattle.whole.specs.Plain.{allTo, allBelow}
+use Rattle.whole.specs.Plain.{allTo}
 
 -- a number up to the next one is that one, or up to this one
 module _ (P : ℕ → Type 0) (n : ℕ) (below : (i : ℕ) → i < n → P i) (at : P n) where

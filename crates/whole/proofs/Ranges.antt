@@ -11,12 +11,14 @@ use lib.Signed.{mag, ltZ}
 use mir.Syntax.{w32, w64}
 use mir.Val.{SFits, ofZ, toZ}
 use mir.ValLaws.{toZ-ofZ}
-use native.Mathlib.Nat.{mul-le-mul}
+use native.Mathlib.Nat.{zero-add, mul-le-mul}
 use Rattle.whole.specs.declared.Natural.the-variants.{Is, Not}
 use Rattle.whole.specs.declared.Operator.{Operator}
+use Rattle.whole.specs.declared.Operator.the-variants.{Plus, Minus, Times, Less, Equal}
 use Rattle.whole.specs.declared.Worked.the-variants.{Value, OutOfRange}
 use Rattle.whole.specs.Whole.{inRange, within, eqZ, apply, natural, nat}
 use Rattle.whole.specs.Vocabulary.Naturals.{asNatural}
+use Rattle.whole.specs.Vocabulary.Summands.{summand}
 
 -- below the least, above the largest, and neither
 pub below-range : (z : ℤ) → ltZ z (negsuc 2147483647) ≡ true → OutOfRange ≡ within z
@@ -69,11 +71,14 @@ mag-product (negsuc a) (negsuc b) = omega (arith, times-le (suc a) (suc b) (a + 
 
 -- so what 32 bits hold can be added, subtracted and multiplied in 64
 module _ (x y : ℤ) (fits-x : SFits w32 x) (fits-y : SFits w32 y) where
-  pub sum-fits : SFits w64 (x +ℤ y)
-  sum-fits = record { sfits = omega (arith, fits-x .sfits, fits-y .sfits, mag-sum x y) }
-
-  pub difference-fits : SFits w64 (x -ℤ y)
-  difference-fits = record { sfits = omega (arith, fits-x .sfits, fits-y .sfits, mag-sum x (negℤ y), mag-neg y) }
+  -- the second with its sign
+  pub total-fits : (o : Operator) → SFits w64 (x +ℤ summand o y)
+  unfolding summand
+  total-fits Minus = record { sfits = omega (arith, fits-x .sfits, fits-y .sfits, mag-sum x (negℤ y), mag-neg y) }
+  total-fits Plus = record { sfits = omega (arith, fits-x .sfits, fits-y .sfits, mag-sum x y) }
+  total-fits Times = record { sfits = omega (arith, fits-x .sfits, fits-y .sfits, mag-sum x y) }
+  total-fits Less = record { sfits = omega (arith, fits-x .sfits, fits-y .sfits, mag-sum x y) }
+  total-fits Equal = record { sfits = omega (arith, fits-x .sfits, fits-y .sfits, mag-sum x y) }
 
   pub product-fits : SFits w64 (x *ℤ y)
   product-fits =
@@ -88,6 +93,28 @@ wide-fits x h = record { sfits = omega (arith, h .sfits) }
 -- what a call was handed, widened, reads back
 pub read-back : (x r : ℤ) → SFits w32 x → r ≡ toZ w32 (ofZ w32 x) → toZ w64 (ofZ w64 r) ≡ x
 read-back x r h e = ap (λ z. toZ w64 (ofZ w64 z)) (e ∙ toZ-ofZ w32 x h) ∙ toZ-ofZ w64 x (wide-fits x h)
+
+-- and so does a second summand
+pub negative : (y : ℤ) → pos 0 -ℤ y ≡ negℤ y
+negative y = go (negℤ y)
+  where
+    go : (z : ℤ) → pos 0 +ℤ z ≡ z
+    go (pos n) = ap pos (zero-add n)
+    go (negsuc n) = let m : suc n - 1 ≡ n = omega arith in rw (lt-ltb 0 (suc n) (omega arith)) (ap negsuc m)
+
+pub negative-fits : (y : ℤ) → SFits w32 y → SFits w64 (pos 0 -ℤ y)
+negative-fits y h = record { sfits = omega (arith, h .sfits, mag-sum (pos 0) (negℤ y), mag-neg y) }
+
+summand-fits : (o : Operator) (y : ℤ) → SFits w32 y → SFits w64 (summand o y)
+unfolding summand
+summand-fits Minus y h = record { sfits = omega (arith, h .sfits, mag-neg y) }
+summand-fits Plus y h = wide-fits y h
+summand-fits Times y h = wide-fits y h
+summand-fits Less y h = wide-fits y h
+summand-fits Equal y h = wide-fits y h
+
+pub summand-back : (o : Operator) (y r : ℤ) → SFits w32 y → r ≡ summand o (toZ w32 (ofZ w32 y)) → toZ w64 (ofZ w64 r) ≡ summand o y
+summand-back o y r h e = ap (λ z. toZ w64 (ofZ w64 z)) (e ∙ ap (summand o) (toZ-ofZ w32 y h)) ∙ toZ-ofZ w64 _ (summand-fits o y h)
 
 -- two numbers are equal where their bits are
 pub same-bits : (x y : ℤ) → SFits w32 x → SFits w32 y → eqb (ofZ w32 x) (ofZ w32 y) ≡ eqZ x y

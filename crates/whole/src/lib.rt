@@ -3,6 +3,7 @@ ghost use mathlib.Core.Path.{_≡_};
 ghost use lib.IntN.{pos};
 ghost use Rattle.whole.specs.Whole as Whole;
 ghost use Rattle.whole.specs.Vocabulary.Naturals as Naturals;
+ghost use Rattle.whole.specs.Vocabulary.Summands as Summands;
 ghost use Rattle.whole.specs.declared.Operator.the-variants.{Plus, Minus, Times, Less, Equal};
 
 pub mod refusals;
@@ -56,18 +57,6 @@ pub fn truth(holds: bool) -> i32
     if holds { 1 } else { 0 }
 }
 
-pub fn sum(x: i32, y: i32) -> Worked
-    ensures { λ r. ⌜ r ≡ Whole.apply Plus x y ⌝ }
-{
-    within(wide(x) + wide(y))
-}
-
-pub fn difference(x: i32, y: i32) -> Worked
-    ensures { λ r. ⌜ r ≡ Whole.apply Minus x y ⌝ }
-{
-    within(wide(x) - wide(y))
-}
-
 pub fn product(x: i32, y: i32) -> Worked
     ensures { λ r. ⌜ r ≡ Whole.apply Times x y ⌝ }
 {
@@ -86,13 +75,23 @@ pub fn equal(x: i32, y: i32) -> Worked
     Worked::Value(truth(x == y))
 }
 
+// A second summand: what a minus takes away is added with the other sign. So a sum and a difference are one way through the code, and the
+// processor need not guess between them.
+fn summand(o: Operator, y: i32) -> i64
+    ensures { λ r. ⌜ r ≡ Summands.summand o y ⌝ }
+{
+    match o {
+        Operator::Minus => -wide(y),
+        _ => wide(y),
+    }
+}
+
 // What an operator gives of two numbers.
 pub fn apply(o: Operator, x: i32, y: i32) -> Worked
     ensures { λ r. ⌜ r ≡ Whole.apply o x y ⌝ }
 {
     match o {
-        Operator::Plus => sum(x, y),
-        Operator::Minus => difference(x, y),
+        Operator::Plus | Operator::Minus => within(wide(x) + summand(o, y)),
         Operator::Times => product(x, y),
         Operator::Less => less(x, y),
         Operator::Equal => equal(x, y),
