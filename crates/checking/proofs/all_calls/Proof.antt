@@ -27,12 +27,6 @@ call-told c = c .call-holds .ensures
 loop-holds : tie.Need-loop-holds Inv-loop μ-loop
 loop-holds c = (omega arith, refl)
 
-cast-t8 : tie.Need-cast-t8 Inv-loop μ-loop
-cast-t8 c = search needs
-
-call-holds-requires : tie.Need-call-holds-requires Inv-loop μ-loop
-call-holds-requires c κs = search needs
-
 returns : tie.Need-returns Inv-loop μ-loop
 returns c =
     let w = c .before .before .before in
@@ -40,12 +34,6 @@ returns c =
     let a = w .before .before .before .before .args in
     sym (last-failed (callHolds (modelOf (now (a .text))) (now (a .cells))) (w .loop .n) (omega arith) (unheld (call-told (c .before)) (c .if1 .taken)))
     ∙ w .loop .inv .1
-
-sub-n : tie.Need-sub-n Inv-loop μ-loop
-sub-n c = search needs
-
-loop-less : tie.Need-loop-less Inv-loop μ-loop
-loop-less c = search needs
 
 loop-again : tie.Need-loop-again Inv-loop μ-loop
 loop-again c =
@@ -72,10 +60,10 @@ all-calls-spec =
     Inv-loop
     μ-loop
     loop-holds
-    cast-t8
-    call-holds-requires
+    (λ c. search needs)
+    (λ c κs. search needs)
     returns
-    sub-n
-    loop-less
+    (λ c. search needs)
+    (λ c. search needs)
     loop-again
     returns-2)

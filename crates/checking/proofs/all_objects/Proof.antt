@@ -24,24 +24,12 @@ abbrev μ-loop : tie.MeasureT-loop
 loop-holds : tie.Need-loop-holds Inv-loop μ-loop
 loop-holds c = (omega arith, λ s m b. refl)
 
-cast-t6 : tie.Need-cast-t6 Inv-loop μ-loop
-cast-t6 c = search needs
-
-object-holds-requires : tie.Need-object-holds-requires Inv-loop μ-loop
-object-holds-requires c κs = search needs
-
 returns : tie.Need-returns Inv-loop μ-loop
 returns c s m b =
     let w = c .before .before .before in
     let t = c .before .before .loop-test .taken in
     sym (last-failed (objectHolds m (now (w .before .before .args .cells))) (w .loop .n) (omega arith) (unheld (c .before .object-holds .ensures s m b) (c .if1 .taken)))
     ∙ w .loop .inv .1 s m b
-
-sub-n : tie.Need-sub-n Inv-loop μ-loop
-sub-n c = search needs
-
-loop-less : tie.Need-loop-less Inv-loop μ-loop
-loop-less c = search needs
 
 loop-again : tie.Need-loop-again Inv-loop μ-loop
 loop-again c =
@@ -67,10 +55,10 @@ all-objects-spec =
     Inv-loop
     μ-loop
     loop-holds
-    cast-t6
-    object-holds-requires
+    (λ c. search needs)
+    (λ c κs. search needs)
     returns
-    sub-n
-    loop-less
+    (λ c. search needs)
+    (λ c. search needs)
     loop-again
     returns-2)

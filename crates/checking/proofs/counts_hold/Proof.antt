@@ -14,24 +14,6 @@ use Rattle.checking.proofs.counts_hold.Tie as tie
 objects-told : (c : tie.After-between) → c .between .result ≡ between (pos 1) (pos objectRows) (read (now (c .before .before .args .cells)) objects)
 objects-told c = c .between .ensures ∙ ap (between (pos 1) (pos objectRows)) (handed _ _ (c .before .objects .ok) (c .before .objects .ensures))
 
-cast-between : tie.Need-cast-between
-cast-between c = search needs
-
-objects-requires : tie.Need-objects-requires
-objects-requires c κs = search needs
-
-between-requires : tie.Need-between-requires
-between-requires c κs = search needs
-
-cast-between-2 : tie.Need-cast-between-2
-cast-between-2 c = search needs
-
-calls-requires : tie.Need-calls-requires
-calls-requires c κs = search needs
-
-between-requires-2 : tie.Need-between-requires-2
-between-requires-2 c κs = search needs
-
 returns : tie.Need-returns
 returns c =
     let b = c .before .before .before in
@@ -45,11 +27,11 @@ pub counts-hold-spec : {M : Type 1} → statement M
 counts-hold-spec =
     tie.close
     (tie.spec
-    cast-between
-    objects-requires
-    between-requires
-    cast-between-2
-    calls-requires
-    between-requires-2
+    (λ c. search needs)
+    (λ c κs. search needs)
+    (λ c κs. search needs)
+    (λ c. search needs)
+    (λ c κs. search needs)
+    (λ c κs. search needs)
     returns
     returns-2)

@@ -27,9 +27,6 @@ objects-told c =
     c .all-objects .ensures _ _ (s .pre .0 .rows)
     ∙ ap (λ n. allTo n (objectHolds (modelOf (now (s .args .text))) (now (s .args .cells)))) (c .before .objects-in-use .ensures)
 
-counts-hold-requires : tie.Need-counts-hold-requires
-counts-hold-requires c κs = search needs
-
 returns : tie.Need-returns
 returns c = counts-wrong _ _ (unheld (c .before .counts-hold .ensures) (c .if1 .taken))
 
@@ -42,9 +39,6 @@ returns-2 c =
     stopped _ _ (unheld (c .before .unused-zero .ensures) (c .if2 .taken))
     ∙ counts-right _ _ (e .before .before .before .before .before .pre .1) (counted e)
 
-objects-in-use-requires : tie.Need-objects-in-use-requires
-objects-in-use-requires c κs = search needs
-
 all-objects-requires : tie.Need-all-objects-requires
 all-objects-requires c κs =
     let e = c .before .before .before in
@@ -56,9 +50,6 @@ returns-3 c =
     let e = u .before in
     passed _ _ (held (u .unused-zero .ensures) (c .before .before .before .if2 .left)) (stopped _ _ (unheld (objects-told (c .before)) (c .if3 .taken)))
     ∙ counts-right _ _ (e .before .before .before .before .before .pre .1) (counted e)
-
-rows-in-use-requires : tie.Need-rows-in-use-requires
-rows-in-use-requires c κs = search needs
 
 all-calls-requires : tie.Need-all-calls-requires
 all-calls-requires c κs =
@@ -80,13 +71,13 @@ pub is-configuration-spec : {M : Type 1} → statement M
 is-configuration-spec =
     tie.close
     (tie.spec
-    counts-hold-requires
+    (λ c κs. search needs)
     returns
     unused-zero-requires
     returns-2
-    objects-in-use-requires
+    (λ c κs. search needs)
     all-objects-requires
     returns-3
-    rows-in-use-requires
+    (λ c κs. search needs)
     all-calls-requires
     returns-4)

@@ -5,14 +5,8 @@ use mathlib.Core.Path.{ap, _∙_}
 use Rattle.creol.proofs.creol_judge.Statement.{statement}
 use Rattle.creol.proofs.creol_judge.Tie as tie
 
-judge-requires : tie.Need-judge-requires
-judge-requires c κs = search needs
-
-packed-requires : tie.Need-packed-requires
-packed-requires c κs = search needs
-
 returns : tie.Need-returns
 returns c = c .packed .ensures ∙ ap packed (c .before .judge .ensures)
 
 pub creol-judge-spec : {M : Type 1} → statement M
-creol-judge-spec = tie.close (tie.spec judge-requires packed-requires returns)
+creol-judge-spec = tie.close (tie.spec (λ c κs. search needs) (λ c κs. search needs) returns)

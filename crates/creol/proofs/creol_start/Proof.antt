@@ -5,17 +5,8 @@ use mathlib.Core.Path.{ap, _∙_}
 use Rattle.creol.proofs.creol_start.Statement.{statement}
 use Rattle.creol.proofs.creol_start.Tie as tie
 
-start-requires : tie.Need-start-requires
-start-requires c κs = search needs
-
-packed-requires : tie.Need-packed-requires
-packed-requires c κs = search needs
-
-same-length : tie.Need-same-length
-same-length c = search needs
-
 returns : tie.Need-returns
 returns c = let e = c .before .before .start .ensures in (c .packed .ensures ∙ ap packed (e .0), e .1)
 
 pub creol-start-spec : {M : Type 1} → statement M
-creol-start-spec = tie.close (tie.spec start-requires packed-requires same-length returns)
+creol-start-spec = tie.close (tie.spec (λ c κs. search needs) (λ c κs. search needs) (λ c. search needs) returns)

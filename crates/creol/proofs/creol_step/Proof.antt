@@ -20,15 +20,6 @@ chosen k n = record { kind = k; number = n }
 handed : (k n : ℤ) → SFits w32 k → SFits w32 n → chosen (toZ w32 (ofZ w32 k)) (toZ w32 (ofZ w32 n)) ≡ chosen k n
 handed k n f g = ap₂ chosen (toZ-ofZ w32 k f) (toZ-ofZ w32 n g)
 
-step-requires : tie.Need-step-requires
-step-requires c κs = search needs
-
-packed-requires : tie.Need-packed-requires
-packed-requires c κs = search needs
-
-same-length : tie.Need-same-length
-same-length c = search needs
-
 returns : tie.Need-returns
 returns c =
     let a = c .before .before .before .before .before in
@@ -39,4 +30,4 @@ returns c =
     )
 
 pub creol-step-spec : {M : Type 1} → statement M
-creol-step-spec = tie.close (tie.spec step-requires packed-requires same-length returns)
+creol-step-spec = tie.close (tie.spec (λ c κs. search needs) (λ c κs. search needs) (λ c. search needs) returns)

@@ -14,30 +14,6 @@ not-quiet : (v : Verdict) (n : ℕ) → packed v + n * 2 ^ 32 ≡ packedDrive v 
 unfolding quietly packedDrive
 not-quiet v n = omega arith
 
-cast-below : tie.Need-cast-below
-cast-below c = search needs
-
-cast-below-2 : tie.Need-cast-below-2
-cast-below-2 c = search needs
-
-mul-below : tie.Need-mul-below
-mul-below c = search needs
-
-add-below : tie.Need-add-below
-add-below c = search needs
-
-cast-below-3 : tie.Need-cast-below-3
-cast-below-3 c = search needs
-
-mul-below-2 : tie.Need-mul-below-2
-mul-below-2 c = search needs
-
-add-below-2 : tie.Need-add-below-2
-add-below-2 c = search needs
-
-add-result : tie.Need-add-result
-add-result c = search needs
-
 returns : tie.Need-returns
 unfolding packed quietly packedDrive
 returns c = sym (ap (packedDrive _ _) (c .if1 .taken))
@@ -50,13 +26,13 @@ pub packed-drive-spec : {M : Type 1} → statement M
 packed-drive-spec =
     tie.close
     (tie.spec
-    cast-below
-    cast-below-2
-    mul-below
-    add-below
-    cast-below-3
-    mul-below-2
-    add-below-2
-    add-result
+    (λ c. search needs)
+    (λ c. search needs)
+    (λ c. search needs)
+    (λ c. search needs)
+    (λ c. search needs)
+    (λ c. search needs)
+    (λ c. search needs)
+    (λ c. search needs)
     returns
     returns-2)

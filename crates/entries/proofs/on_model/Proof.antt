@@ -19,33 +19,12 @@ accepted-text c =
     (let h = start .pre in let e = c .before .before .before .before .before .table .given in let f = c .before .before .before .shapes .given in (search needs, search needs)) in
     known _ _ _ sized _ (r .read .ensures .0) (c .if1 .left) (r .read .ensures .1)
 
-read-requires : tie.Need-read-requires
-read-requires c κs = search needs
-
-same-length : tie.Need-same-length
-same-length c = search needs
-
-same-length-2 : tie.Need-same-length-2
-same-length-2 c = search needs
-
 returns : tie.Need-returns
 returns c = text-refused _ _ _ _ _ (c .before .before .before .before .before .before .read .ensures .0) (c .if1 .taken)
-
-same-length-3 : tie.Need-same-length-3
-same-length-3 c = search needs
-
-same-length-4 : tie.Need-same-length-4
-same-length-4 c = search needs
 
 returns-2 : tie.Need-returns-2
 unfolding atNoLine
 returns-2 c = not-all _ _ _ _ (accepted-text (c .before)) (c .if2 .taken) _ refl
-
-same-length-5 : tie.Need-same-length-5
-same-length-5 c = search needs
-
-same-length-6 : tie.Need-same-length-6
-same-length-6 c = search needs
 
 returns-3 : tie.Need-returns-3
 returns-3 c =
@@ -55,13 +34,13 @@ pub on-model-spec : {M : Type 1} → statement M
 on-model-spec =
     tie.close
     (tie.spec
-    read-requires
-    same-length
-    same-length-2
+    (λ c κs. search needs)
+    (λ c. search needs)
+    (λ c. search needs)
     returns
-    same-length-3
-    same-length-4
+    (λ c. search needs)
+    (λ c. search needs)
     returns-2
-    same-length-5
-    same-length-6
+    (λ c. search needs)
+    (λ c. search needs)
     returns-3)

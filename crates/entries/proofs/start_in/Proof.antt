@@ -4,20 +4,8 @@ use Rattle.entries.proofs.Outcomes.{start-refused, start-accepted}
 use Rattle.entries.proofs.start_in.Statement.{statement}
 use Rattle.entries.proofs.start_in.Tie as tie
 
-on-model-requires : tie.Need-on-model-requires
-on-model-requires c κs = search needs
-
 write-fresh-requires : tie.Need-write-fresh-requires
 write-fresh-requires c κs = c .before .before .before .before .before .before .before .on-model .ensures .passed (c .before .if1 .taken) .2
-
-same-length : tie.Need-same-length
-same-length c = search needs
-
-same-length-2 : tie.Need-same-length-2
-same-length-2 c = search needs
-
-same-length-3 : tie.Need-same-length-3
-same-length-3 c = search needs
 
 returns : tie.Need-returns
 returns c =
@@ -25,15 +13,6 @@ returns c =
     let z = c .before .before .before .if1 .taken in
     let gives = start-accepted _ _ _ _ _ h z _ (c .before .write-fresh .ensures) in
     (gives .0, (gives .1, λ _. h .passed z .1))
-
-same-length-4 : tie.Need-same-length-4
-same-length-4 c = search needs
-
-same-length-5 : tie.Need-same-length-5
-same-length-5 c = search needs
-
-same-length-6 : tie.Need-same-length-6
-same-length-6 c = search needs
 
 returns-2 : tie.Need-returns-2
 returns-2 c =
@@ -45,13 +24,13 @@ pub start-in-spec : {M : Type 1} → statement M
 start-in-spec =
     tie.close
     (tie.spec
-    on-model-requires
+    (λ c κs. search needs)
     write-fresh-requires
-    same-length
-    same-length-2
-    same-length-3
+    (λ c. search needs)
+    (λ c. search needs)
+    (λ c. search needs)
     returns
-    same-length-4
-    same-length-5
-    same-length-6
+    (λ c. search needs)
+    (λ c. search needs)
+    (λ c. search needs)
     returns-2)

@@ -5,30 +5,6 @@ use Rattle.entries.proofs.Freshly.{fresh-written}
 use Rattle.entries.proofs.write_fresh.Statement.{statement}
 use Rattle.entries.proofs.write_fresh.Tie as tie
 
-clear-requires : tie.Need-clear-requires
-clear-requires c κs = search needs
-
-to-objects-requires : tie.Need-to-objects-requires
-to-objects-requires c κs = search needs
-
-to-calls-requires : tie.Need-to-calls-requires
-to-calls-requires c κs = search needs
-
-slice-aggregate-new-object : tie.Need-slice-aggregate-new-object
-slice-aggregate-new-object c = search needs
-
-new-object-requires : tie.Need-new-object-requires
-new-object-requires c κs = search needs
-
-slice-aggregate-new-call : tie.Need-slice-aggregate-new-call
-slice-aggregate-new-call c = search needs
-
-new-call-requires : tie.Need-new-call-requires
-new-call-requires c κs = search needs
-
-same-length : tie.Need-same-length
-same-length c = search needs
-
 returns : tie.Need-returns
 returns c =
     fresh-written (now (c .before .before .before .before .before .before .before .before .before .before .before .before .before .before .before .before .before .args .cells)) _ _ _ _ _ (c .before .before .before .before .before .before .before .before .before .before .before .before .before .before .before .before .before .pre)
@@ -42,12 +18,12 @@ pub write-fresh-spec : {M : Type 1} → statement M
 write-fresh-spec =
     tie.close
     (tie.spec
-    clear-requires
-    to-objects-requires
-    to-calls-requires
-    slice-aggregate-new-object
-    new-object-requires
-    slice-aggregate-new-call
-    new-call-requires
-    same-length
+    (λ c κs. search needs)
+    (λ c κs. search needs)
+    (λ c κs. search needs)
+    (λ c. search needs)
+    (λ c κs. search needs)
+    (λ c. search needs)
+    (λ c κs. search needs)
+    (λ c. search needs)
     returns)

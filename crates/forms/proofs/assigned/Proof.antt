@@ -10,15 +10,6 @@ use Rattle.forms.proofs.Written.{onward-then}
 use Rattle.forms.proofs.assigned.Statement.{statement}
 use Rattle.forms.proofs.assigned.Tie as tie
 
-stored-requires : tie.Need-stored-requires
-stored-requires c κs = search needs
-
-onward-requires : tie.Need-onward-requires
-onward-requires c κs = search needs
-
-same-length : tie.Need-same-length
-same-length c = search needs
-
 returns : tie.Need-returns
 unfolding Exec.assigned
 returns c m st at =
@@ -30,4 +21,4 @@ returns c m st at =
     m _ _ st _ (c .before .onward .ensures m st at)
 
 pub assigned-spec : {M : Type 1} → statement M
-assigned-spec = tie.close (tie.spec stored-requires onward-requires same-length returns)
+assigned-spec = tie.close (tie.spec (λ c κs. search needs) (λ c κs. search needs) (λ c. search needs) returns)

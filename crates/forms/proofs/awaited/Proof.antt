@@ -6,26 +6,8 @@ use Rattle.forms.proofs.Written.{worked-out, did-not-fit, tested-true}
 use Rattle.forms.proofs.awaited.Statement.{statement}
 use Rattle.forms.proofs.awaited.Tie as tie
 
-enum-told : tie.Need-enum-told
-enum-told c = search needs
-
-enum-known-g : tie.Need-enum-known-g
-enum-known-g c = search needs
-
-is-true-requires : tie.Need-is-true-requires
-is-true-requires c κs = search needs
-
-crossed-requires : tie.Need-crossed-requires
-crossed-requires c κs = search needs
-
-suspended-requires : tie.Need-suspended-requires
-suspended-requires c κs = search needs
-
 returns : tie.Need-returns
 returns c m st at = did-not-fit _ _ _ (c .enum-told .given .1)
-
-same-length : tie.Need-same-length
-same-length c = search needs
 
 returns-2 : tie.Need-returns-2
 unfolding Exec.awaited
@@ -34,9 +16,6 @@ returns-2 c m st at =
     let z = i .before .before .g .given in
     worked-out _ _ _ _ (z .0 .0) _ (z .1)
     (rw (tested-true _ true _ (i .before .known-told .given .0 .1) (i .is-true .ensures) (c .before .before .before .if1 .taken), Exec.awaited) (c .before .crossed .ensures m st at))
-
-same-length-2 : tie.Need-same-length-2
-same-length-2 c = search needs
 
 returns-3 : tie.Need-returns-3
 unfolding Exec.awaited
@@ -50,13 +29,13 @@ pub awaited-spec : {M : Type 1} → statement M
 awaited-spec =
     tie.close
     (tie.spec
-    enum-told
-    enum-known-g
-    is-true-requires
-    crossed-requires
-    suspended-requires
+    (λ c. search needs)
+    (λ c. search needs)
+    (λ c κs. search needs)
+    (λ c κs. search needs)
+    (λ c κs. search needs)
     returns
-    same-length
+    (λ c. search needs)
     returns-2
-    same-length-2
+    (λ c. search needs)
     returns-3)

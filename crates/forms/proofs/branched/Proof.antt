@@ -6,26 +6,8 @@ use Rattle.forms.proofs.Written.{worked-out, did-not-fit, tested-true}
 use Rattle.forms.proofs.branched.Statement.{statement}
 use Rattle.forms.proofs.branched.Tie as tie
 
-enum-told : tie.Need-enum-told
-enum-told c = search needs
-
-enum-known-w : tie.Need-enum-known-w
-enum-known-w c = search needs
-
-is-true-requires : tie.Need-is-true-requires
-is-true-requires c κs = search needs
-
-onward-requires : tie.Need-onward-requires
-onward-requires c κs = search needs
-
-jumped-requires : tie.Need-jumped-requires
-jumped-requires c κs = search needs
-
 returns : tie.Need-returns
 returns c m st at to = did-not-fit _ _ _ (c .enum-told .given .1)
-
-same-length : tie.Need-same-length
-same-length c = search needs
 
 returns-2 : tie.Need-returns-2
 unfolding Exec.branched
@@ -34,9 +16,6 @@ returns-2 c m st at to =
     let z = i .before .before .w .given in
     worked-out _ _ _ _ (z .0 .0) _ (z .1)
     (rw (tested-true _ true _ (i .before .known-told .given .0 .1) (i .is-true .ensures) (c .before .before .before .if1 .taken), Exec.branched) (c .before .onward .ensures m st at))
-
-same-length-2 : tie.Need-same-length-2
-same-length-2 c = search needs
 
 returns-3 : tie.Need-returns-3
 unfolding Exec.branched
@@ -50,13 +29,13 @@ pub branched-spec : {M : Type 1} → statement M
 branched-spec =
     tie.close
     (tie.spec
-    enum-told
-    enum-known-w
-    is-true-requires
-    onward-requires
-    jumped-requires
+    (λ c. search needs)
+    (λ c. search needs)
+    (λ c κs. search needs)
+    (λ c κs. search needs)
+    (λ c κs. search needs)
     returns
-    same-length
+    (λ c. search needs)
     returns-2
-    same-length-2
+    (λ c. search needs)
     returns-3)

@@ -10,29 +10,8 @@ use Rattle.forms.proofs.Written.{all-written, then, staged-then, worked
 use Rattle.forms.proofs.returned.Statement.{statement}
 use Rattle.forms.proofs.returned.Tie as tie
 
-enum-told : tie.Need-enum-told
-enum-told c = search needs
-
-enum-known-w : tie.Need-enum-known-w
-enum-known-w c = search needs
-
-stage-returned-requires : tie.Need-stage-returned-requires
-stage-returned-requires c κs = search needs
-
-to-call-requires : tie.Need-to-call-requires
-to-call-requires c κs = search needs
-
-to-stage-requires : tie.Need-to-stage-requires
-to-stage-requires c κs = search needs
-
-freed-requires : tie.Need-freed-requires
-freed-requires c κs = search needs
-
 returns : tie.Need-returns
 returns c m st = did-not-fit _ _ _ (c .enum-told .given .1)
-
-same-length : tie.Need-same-length
-same-length c = search needs
 
 returns-2 : tie.Need-returns-2
 unfolding Exec.returned Exec.freed
@@ -55,12 +34,12 @@ pub returned-spec : {M : Type 1} → statement M
 returned-spec =
     tie.close
     (tie.spec
-    enum-told
-    enum-known-w
-    stage-returned-requires
-    to-call-requires
-    to-stage-requires
-    freed-requires
+    (λ c. search needs)
+    (λ c. search needs)
+    (λ c κs. search needs)
+    (λ c κs. search needs)
+    (λ c κs. search needs)
+    (λ c κs. search needs)
     returns
-    same-length
+    (λ c. search needs)
     returns-2)

@@ -8,20 +8,8 @@ use Rattle.forms.proofs.Written.{worked-out, did-not-fit, done-with}
 use Rattle.forms.proofs.set_to.Statement.{statement}
 use Rattle.forms.proofs.set_to.Tie as tie
 
-enum-told : tie.Need-enum-told
-enum-told c = search needs
-
-enum-known-w : tie.Need-enum-known-w
-enum-known-w c = search needs
-
-assigned-requires : tie.Need-assigned-requires
-assigned-requires c κs = search needs
-
 returns : tie.Need-returns
 returns c m st at = did-not-fit _ _ _ (c .enum-told .given .1)
-
-same-length : tie.Need-same-length
-same-length c = search needs
 
 returns-2 : tie.Need-returns-2
 returns-2 c m st at =
@@ -35,4 +23,4 @@ returns-2 c m st at =
 
 pub set-to-spec : {M : Type 1} → statement M
 set-to-spec =
-    tie.close (tie.spec enum-told enum-known-w assigned-requires returns same-length returns-2)
+    tie.close (tie.spec (λ c. search needs) (λ c. search needs) (λ c κs. search needs) returns (λ c. search needs) returns-2)

@@ -11,12 +11,6 @@ use Rattle.whole.specs.Whole.{eqZ}
 use Rattle.forms.proofs.stage_returned.Statement.{statement}
 use Rattle.forms.proofs.stage_returned.Tie as tie
 
-of-call-requires : tie.Need-of-call-requires
-of-call-requires c κs = search needs
-
-is-number-requires : tie.Need-is-number-requires
-is-number-requires c κs = search needs
-
 -- what the test says of the call's caller
 test : (c : tie.After-is-number) (b : Bool) → c .is-number .result ≡ b
     → eqZ (ofCall (now (c .before .before .args .cells)) (c .before .before .args .here .label .0) caller) nobody ≡ b
@@ -32,4 +26,4 @@ unfolding Exec.stageReturned
 returns-2 c m st = rw (test (c .before) false (c .if1 .left), Exec.stageReturned) refl
 
 pub stage-returned-spec : {M : Type 1} → statement M
-stage-returned-spec = tie.close (tie.spec of-call-requires is-number-requires returns returns-2)
+stage-returned-spec = tie.close (tie.spec (λ c κs. search needs) (λ c κs. search needs) returns returns-2)

@@ -5,18 +5,6 @@ use Rattle.forms.proofs.Written.{all-written, then, call-then}
 use Rattle.forms.proofs.suspended.Statement.{statement}
 use Rattle.forms.proofs.suspended.Tie as tie
 
-to-stage-requires : tie.Need-to-stage-requires
-to-stage-requires c κs = search needs
-
-to-call-requires : tie.Need-to-call-requires
-to-call-requires c κs = search needs
-
-freed-requires : tie.Need-freed-requires
-freed-requires c κs = search needs
-
-same-length : tie.Need-same-length
-same-length c = search needs
-
 returns : tie.Need-returns
 unfolding Exec.suspended Exec.freed
 returns c m st =
@@ -25,4 +13,4 @@ returns c m st =
 
 pub suspended-spec : {M : Type 1} → statement M
 suspended-spec =
-    tie.close (tie.spec to-stage-requires to-call-requires freed-requires same-length returns)
+    tie.close (tie.spec (λ c κs. search needs) (λ c κs. search needs) (λ c κs. search needs) (λ c. search needs) returns)

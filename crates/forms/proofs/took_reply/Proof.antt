@@ -13,30 +13,6 @@ use Rattle.forms.proofs.Written.{not-performed, assigned-then, done-wit
 use Rattle.forms.proofs.took_reply.Statement.{statement}
 use Rattle.forms.proofs.took_reply.Tie as tie
 
-held-requires : tie.Need-held-requires
-held-requires c κs = search needs
-
-reply-for-requires : tie.Need-reply-for-requires
-reply-for-requires c κs = search needs
-
-enum-told : tie.Need-enum-told
-enum-told c = search needs
-
-enum-known-from : tie.Need-enum-known-from
-enum-known-from c = search needs
-
-of-call-requires : tie.Need-of-call-requires
-of-call-requires c κs = search needs
-
-to-stage-requires : tie.Need-to-stage-requires
-to-stage-requires c κs = search needs
-
-assigned-requires : tie.Need-assigned-requires
-assigned-requires c κs = search needs
-
-same-length : tie.Need-same-length
-same-length c = search needs
-
 -- the reply that was found for the value of the variable
 found : (c : tie.After-reply-for) → (let a = c .before .before .before .args in
     c .reply-for .result ≡ asLabel (replyFor (now (a .cells)) (a .here .object .0) (held (Exec.here (now (a .cells)) (a .here .object .0) (a .here .label .0)) (a .x))))
@@ -49,9 +25,6 @@ found c =
 returns : tie.Need-returns
 unfolding Exec.tookReply
 returns c m st at = rw (label-none _ (sym (found (c .before .before)) ∙ c .enum-told .given .1), Exec.tookReply) (not-performed _ _)
-
-same-length-2 : tie.Need-same-length-2
-same-length-2 c = search needs
 
 returns-2 : tie.Need-returns-2
 unfolding Exec.tookReply
@@ -70,14 +43,14 @@ pub took-reply-spec : {M : Type 1} → statement M
 took-reply-spec =
     tie.close
     (tie.spec
-    held-requires
-    reply-for-requires
-    enum-told
-    enum-known-from
-    of-call-requires
-    to-stage-requires
-    assigned-requires
-    same-length
+    (λ c κs. search needs)
+    (λ c κs. search needs)
+    (λ c. search needs)
+    (λ c. search needs)
+    (λ c κs. search needs)
+    (λ c κs. search needs)
+    (λ c κs. search needs)
+    (λ c. search needs)
     returns
-    same-length-2
+    (λ c. search needs)
     returns-2)

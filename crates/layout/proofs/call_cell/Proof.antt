@@ -1,5 +1,5 @@
 -- `layout::call_cell` meets its contract. Assumes nothing.
-use mathlib.Core.Path.{_≡_, sym, ap, _∙_}
+use mathlib.Core.Path.{sym, ap, _∙_}
 use Rattle.layout.proofs.Fields.{call-at, call-none}
 use Rattle.layout.proofs.Numbers.{row-some, row-none}
 use Rattle.layout.specs.Layout.{stands, cellOf}
@@ -7,18 +7,6 @@ use Rattle.layout.specs.Vocabulary.Found.{asCell, placed, fieldCell}
 use borrow.Author.Needs.{needs}
 use Rattle.layout.proofs.call_cell.Statement.{statement}
 use Rattle.layout.proofs.call_cell.Tie as tie
-
-row-of-requires : tie.Need-row-of-requires
-row-of-requires c κs = search needs
-
-enum-known-row : tie.Need-enum-known-row
-enum-known-row c = search needs
-
-field-cell-requires : tie.Need-field-cell-requires
-field-cell-requires c κs = search needs
-
-enum-told : tie.Need-enum-told
-enum-told c = search needs
 
 returns : tie.Need-returns
 unfolding placed fieldCell stands cellOf
@@ -34,4 +22,4 @@ returns-2 c = sym (ap asCell (call-none _ _ _ (row-none _ (sym (c .before .befor
 pub call-cell-spec : {M : Type 1} → statement M
 call-cell-spec =
     tie.close
-    (tie.spec row-of-requires enum-known-row field-cell-requires enum-told returns returns-2)
+    (tie.spec (λ c κs. search needs) (λ c. search needs) (λ c κs. search needs) (λ c. search needs) returns returns-2)

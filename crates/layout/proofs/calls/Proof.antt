@@ -6,12 +6,9 @@ use Rattle.whole.proofs.Ranges.{handed}
 use Rattle.layout.proofs.calls.Statement.{statement}
 use Rattle.layout.proofs.calls.Tie as tie
 
-cell-requires : tie.Need-cell-requires
-cell-requires c κs = search needs
-
 returns : tie.Need-returns
 unfolding read stands cellOf heldAt
 returns c = handed _ _ (c .cell .ok) (c .cell .ensures)
 
 pub calls-spec : {M : Type 1} → statement M
-calls-spec = tie.close (tie.spec cell-requires returns)
+calls-spec = tie.close (tie.spec (λ c κs. search needs) returns)

@@ -10,18 +10,6 @@ use borrow.Author.Needs.{needs}
 use Rattle.layout.proofs.cell.Statement.{statement}
 use Rattle.layout.proofs.cell.Tie as tie
 
-enum-told : tie.Need-enum-told
-enum-told c = search needs
-
-enum-known-found : tie.Need-enum-known-found
-enum-known-found c = search needs
-
-mul-result : tie.Need-mul-result
-mul-result c = search needs
-
-shared-slice-copy-out-result : tie.Need-shared-slice-copy-out-result
-shared-slice-copy-out-result c = search needs
-
 returns : tie.Need-returns
 unfolding heldAt
 returns c = sym (ap (heldAt (now (c .before .before .args .cells))) (c .enum-told .given .1))
@@ -45,10 +33,10 @@ pub cell-spec : {M : Type 1} → statement M
 cell-spec =
     tie.close
     (tie.spec
-    enum-told
-    enum-known-found
-    mul-result
-    shared-slice-copy-out-result
+    (λ c. search needs)
+    (λ c. search needs)
+    (λ c. search needs)
+    (λ c. search needs)
     returns
     returns-2
     returns-3)

@@ -16,18 +16,6 @@ told : (c : tie.After-as-natural) → c .as-natural .result ≡ asNatural (natur
 unfolding heldAt
 told c = c .as-natural .ensures ∙ ap (λ z. asNatural (natural z)) (handed _ _ (c .before .cell .ok) (c .before .cell .ensures))
 
-cell-requires : tie.Need-cell-requires
-cell-requires c κs = search needs
-
-as-natural-requires : tie.Need-as-natural-requires
-as-natural-requires c κs = search needs
-
-enum-known-n : tie.Need-enum-known-n
-enum-known-n c = search needs
-
-enum-told : tie.Need-enum-told
-enum-told c = search needs
-
 returns : tie.Need-returns
 unfolding nat
 returns c = sym (ap nat (natural-is _ _ (sym (told (c .before .before .before)) ∙ c .before .n .given .1)))
@@ -36,4 +24,4 @@ returns-2 : tie.Need-returns-2
 returns-2 c = sym (nat-not _ (sym (told (c .before .before)) ∙ c .enum-told .given .1))
 
 pub count-spec : {M : Type 1} → statement M
-count-spec = tie.close (tie.spec cell-requires as-natural-requires enum-known-n enum-told returns returns-2)
+count-spec = tie.close (tie.spec (λ c κs. search needs) (λ c κs. search needs) (λ c. search needs) (λ c. search needs) returns returns-2)

@@ -19,14 +19,8 @@ row c b e = sym (c .is-row .ensures) ∙ e
 few : (c : tie.After-is-row) → (c .before .args .row - 1) * (c .before .args .width) ≤ 4294967296 * 65536
 few c = mul-le-mul {n₂ = 4294967296} {m₂ = 65536} (omega (arith, c .before .fits .row)) (omega (arith, c .before .fits .width))
 
-is-row-requires : tie.Need-is-row-requires
-is-row-requires c κs = search needs
-
 sub-t8 : tie.Need-sub-t8
 sub-t8 c = row-within _ _ (row (c .before .before) true (c .before .if1 .taken)) .0
-
-cast-t9 : tie.Need-cast-t9
-cast-t9 c = search needs
 
 mul-t11 : tie.Need-mul-t11
 mul-t11 c = record { fits = omega (arith, few (c .before .before)) }
@@ -49,4 +43,4 @@ returns-3 c = sym (row-past _ _ _ _ _ (row (c .before) false (c .if1 .left)))
 pub field-cell-spec : {M : Type 1} → statement M
 field-cell-spec =
     tie.close
-    (tie.spec is-row-requires sub-t8 cast-t9 mul-t11 add-t12 add-t14 returns returns-2 returns-3)
+    (tie.spec (λ c κs. search needs) sub-t8 (λ c. search needs) mul-t11 add-t12 add-t14 returns returns-2 returns-3)

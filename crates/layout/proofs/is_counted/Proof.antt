@@ -10,12 +10,6 @@ use Rattle.whole.specs.Whole.{between}
 use Rattle.layout.proofs.is_counted.Statement.{statement}
 use Rattle.layout.proofs.is_counted.Tie as tie
 
-cell-requires : tie.Need-cell-requires
-cell-requires c κs = search needs
-
-between-requires : tie.Need-between-requires
-between-requires c κs = search needs
-
 returns : tie.Need-returns
 unfolding heldAt
 returns c =
@@ -23,4 +17,4 @@ returns c =
     c .between .ensures ∙ ap₂ (between (pos 1)) (handed _ _ (c .before .cell .ok) (c .before .cell .ensures)) (toZ-ofZ w32 _ (s .fits .z))
 
 pub is-counted-spec : {M : Type 1} → statement M
-is-counted-spec = tie.close (tie.spec cell-requires between-requires returns)
+is-counted-spec = tie.close (tie.spec (λ c κs. search needs) (λ c κs. search needs) returns)

@@ -3,25 +3,13 @@ use borrow.Author.Needs.{needs}
 use denote.Ref.{now}
 use lib.IntN.{pos}
 use mathlib.Core.Bool.{_&&_}
-use mathlib.Core.Path.{_≡_, sym, ap, _∙_}
+use mathlib.Core.Path.{sym, ap, _∙_}
 use Rattle.layout.specs.Layout.{ofCall, caller}
 use Rattle.layout.specs.Stages.{isReply}
 use Rattle.whole.proofs.Ranges.{handed}
 use Rattle.whole.specs.Whole.{eqZ}
 use Rattle.layout.proofs.is_reply.Statement.{statement}
 use Rattle.layout.proofs.is_reply.Tie as tie
-
-in-stage-requires : tie.Need-in-stage-requires
-in-stage-requires c κs = search needs
-
-of-call-requires : tie.Need-of-call-requires
-of-call-requires c κs = search needs
-
-cast-is-number : tie.Need-cast-is-number
-cast-is-number c = search needs
-
-is-number-requires : tie.Need-is-number-requires
-is-number-requires c κs = search needs
 
 returns : tie.Need-returns
 unfolding isReply
@@ -39,4 +27,4 @@ returns-2 c =
 
 pub is-reply-spec : {M : Type 1} → statement M
 is-reply-spec =
-    tie.close (tie.spec in-stage-requires of-call-requires cast-is-number is-number-requires returns returns-2)
+    tie.close (tie.spec (λ c κs. search needs) (λ c κs. search needs) (λ c. search needs) (λ c κs. search needs) returns returns-2)

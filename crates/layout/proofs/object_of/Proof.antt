@@ -20,9 +20,6 @@ test : (c : tie.After-is-counted) (b : Bool) → c .is-counted .result ≡ b
 unfolding read stands cellOf
 test c b e = sym (c .is-counted .ensures ∙ ap (between (pos 1) _) (toZ-ofZ w32 _ (c .before .fits .z))) ∙ e
 
-is-counted-requires : tie.Need-is-counted-requires
-is-counted-requires c κs = search needs
-
 cast-t5 : tie.Need-cast-t5
 unfolding objectsInUse
 cast-t5 c =
@@ -39,4 +36,4 @@ returns-2 : tie.Need-returns-2
 returns-2 c = object-not-in-use _ _ (test (c .before) false (c .if1 .left))
 
 pub object-of-spec : {M : Type 1} → statement M
-object-of-spec = tie.close (tie.spec is-counted-requires cast-t5 returns returns-2)
+object-of-spec = tie.close (tie.spec (λ c κs. search needs) cast-t5 returns returns-2)

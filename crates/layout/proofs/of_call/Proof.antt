@@ -9,12 +9,6 @@ use borrow.Author.Needs.{needs}
 use Rattle.layout.proofs.of_call.Statement.{statement}
 use Rattle.layout.proofs.of_call.Tie as tie
 
-call-cell-requires : tie.Need-call-cell-requires
-call-cell-requires c κs = search needs
-
-cell-requires : tie.Need-cell-requires
-cell-requires c κs = search needs
-
 returns : tie.Need-returns
 returns c =
     let cells = now (c .before .before .args .cells) in
@@ -24,4 +18,4 @@ returns c =
     ∙ held-call cells _ _
 
 pub of-call-spec : {M : Type 1} → statement M
-of-call-spec = tie.close (tie.spec call-cell-requires cell-requires returns)
+of-call-spec = tie.close (tie.spec (λ c κs. search needs) (λ c κs. search needs) returns)

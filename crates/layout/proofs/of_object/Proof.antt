@@ -10,12 +10,6 @@ use borrow.Author.Needs.{needs}
 use Rattle.layout.proofs.of_object.Statement.{statement}
 use Rattle.layout.proofs.of_object.Tie as tie
 
-object-cell-requires : tie.Need-object-cell-requires
-object-cell-requires c κs = search needs
-
-cell-requires : tie.Need-cell-requires
-cell-requires c κs = search needs
-
 returns : tie.Need-returns
 unfolding ofObject
 returns c =
@@ -26,4 +20,4 @@ returns c =
     ∙ held-placed cells _
 
 pub of-object-spec : {M : Type 1} → statement M
-of-object-spec = tie.close (tie.spec object-cell-requires cell-requires returns)
+of-object-spec = tie.close (tie.spec (λ c κs. search needs) (λ c κs. search needs) returns)

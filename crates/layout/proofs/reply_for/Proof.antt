@@ -17,18 +17,6 @@ found : (c : tie.After-label-of) → c .label-of .result ≡ asLabel (labelOf (n
 found c =
     c .label-of .ensures ∙ ap (λ z. asLabel (labelOf (now (c .before .args .cells)) z)) (toZ-ofZ w32 _ (c .before .fits .z))
 
-label-of-requires : tie.Need-label-of-requires
-label-of-requires c κs = search needs
-
-enum-told : tie.Need-enum-told
-enum-told c = search needs
-
-enum-known-l : tie.Need-enum-known-l
-enum-known-l c = search needs
-
-is-reply-requires : tie.Need-is-reply-requires
-is-reply-requires c κs = search needs
-
 returns : tie.Need-returns
 returns c = no-label _ _ _ (sym (c .enum-told .given .1) ∙ found (c .before .before))
 
@@ -48,10 +36,10 @@ pub reply-for-spec : {M : Type 1} → statement M
 reply-for-spec =
     tie.close
     (tie.spec
-    label-of-requires
-    enum-told
-    enum-known-l
-    is-reply-requires
+    (λ c κs. search needs)
+    (λ c. search needs)
+    (λ c. search needs)
+    (λ c κs. search needs)
     returns
     returns-2
     returns-3)

@@ -7,9 +7,6 @@ use Rattle.layout.specs.Vocabulary.Found.{asRow}
 use Rattle.layout.proofs.row_of.Statement.{statement}
 use Rattle.layout.proofs.row_of.Tie as tie
 
-is-row-requires : tie.Need-is-row-requires
-is-row-requires c κs = search needs
-
 returns : tie.Need-returns
 unfolding asRow rowOf onlyIf
 returns c = ap (λ b. asRow (onlyIf b (c .before .before .args .l .0))) (sym (c .if1 .taken) ∙ c .before .is-row .ensures)
@@ -19,4 +16,4 @@ unfolding asRow rowOf onlyIf
 returns-2 c = ap (λ b. asRow (onlyIf b (c .before .before .args .l .0))) (sym (c .if1 .left) ∙ c .before .is-row .ensures)
 
 pub row-of-spec : {M : Type 1} → statement M
-row-of-spec = tie.close (tie.spec is-row-requires returns returns-2)
+row-of-spec = tie.close (tie.spec (λ c κs. search needs) returns returns-2)

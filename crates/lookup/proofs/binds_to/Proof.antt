@@ -32,21 +32,6 @@ row-requires c κs =
     let h = c .before .pre in
     (h .0 .sized, omega (arith, class-few _ (h .0) _ (h .1)))
 
-as-natural-requires : tie.Need-as-natural-requires
-as-natural-requires c κs = search needs
-
-enum-told : tie.Need-enum-told
-enum-told c = search needs
-
-enum-known-j : tie.Need-enum-known-j
-enum-known-j c = search needs
-
-cast-if1 : tie.Need-cast-if1
-cast-if1 c = search needs
-
-cast-takes : tie.Need-cast-takes
-cast-takes c = search needs
-
 takes-requires : tie.Need-takes-requires
 takes-requires c κs =
     let h = c .before .before .before .before .before .before .before .before .pre in
@@ -80,11 +65,11 @@ binds-to-spec =
     tie.close
     (tie.spec
     row-requires
-    as-natural-requires
-    enum-told
-    enum-known-j
-    cast-if1
-    cast-takes
+    (λ c κs. search needs)
+    (λ c. search needs)
+    (λ c. search needs)
+    (λ c. search needs)
+    (λ c. search needs)
     takes-requires
     returns
     returns-2

@@ -27,33 +27,6 @@ callee-is : (c : tie.After-o)
     → (let s = c .before .before .before .before .before in natural (ofCall (now (s .args .cells)) (s .args .l .0) callee) ≡ some (c .o .given .0 .0 .0))
 callee-is c = let o = c .o .given in object-is _ _ (c .before .before .before .before .before .pre .1 .1) (o .0 .0) (found (c .before .before) ∙ o .1)
 
-of-call-requires : tie.Need-of-call-requires
-of-call-requires c κs = search needs
-
-object-of-requires : tie.Need-object-of-requires
-object-of-requires c κs = search needs
-
-enum-told : tie.Need-enum-told
-enum-told c = search needs
-
-enum-known-o : tie.Need-enum-known-o
-enum-known-o c = search needs
-
-class-of-requires : tie.Need-class-of-requires
-class-of-requires c κs = search needs
-
-enum-told-2 : tie.Need-enum-told-2
-enum-told-2 c = search needs
-
-enum-known-k : tie.Need-enum-known-k
-enum-known-k c = search needs
-
-of-call-requires-2 : tie.Need-of-call-requires-2
-of-call-requires-2 c κs = search needs
-
-of-call-requires-3 : tie.Need-of-call-requires-3
-of-call-requires-3 c κs = search needs
-
 binds-to-requires : tie.Need-binds-to-requires
 binds-to-requires c κs =
     let t = c .before .before .before .before .before .before .before .before .before .before .before .before .pre .0 in
@@ -86,15 +59,15 @@ pub body-of-spec : {M : Type 1} → statement M
 body-of-spec =
     tie.close
     (tie.spec
-    of-call-requires
-    object-of-requires
-    enum-told
-    enum-known-o
-    class-of-requires
-    enum-told-2
-    enum-known-k
-    of-call-requires-2
-    of-call-requires-3
+    (λ c κs. search needs)
+    (λ c κs. search needs)
+    (λ c. search needs)
+    (λ c. search needs)
+    (λ c κs. search needs)
+    (λ c. search needs)
+    (λ c. search needs)
+    (λ c κs. search needs)
+    (λ c κs. search needs)
     binds-to-requires
     returns
     returns-2

@@ -21,24 +21,6 @@ told c = sym (c .as-natural .ensures ∙ ap (λ z. asNatural (natural z)) (toZ-o
 number-is : (c : tie.After-k) → natural (c .before .before .before .before .args .z) ≡ some (c .k .given .0 .0)
 number-is c = natural-some _ _ (told (c .before .before) ∙ c .k .given .1)
 
-as-natural-requires : tie.Need-as-natural-requires
-as-natural-requires c κs = search needs
-
-enum-told : tie.Need-enum-told
-enum-told c = search needs
-
-enum-known-k : tie.Need-enum-known-k
-enum-known-k c = search needs
-
-classes-requires : tie.Need-classes-requires
-classes-requires c κs = search needs
-
-cast-if1 : tie.Need-cast-if1
-cast-if1 c = search needs
-
-cast-t10 : tie.Need-cast-t10
-cast-t10 c = search needs
-
 returns : tie.Need-returns
 returns c s m b = class-not m _ (natural-none _ (told (c .before .before) ∙ c .enum-told .given .1))
 
@@ -54,12 +36,12 @@ pub class-at-spec : {M : Type 1} → statement M
 class-at-spec =
     tie.close
     (tie.spec
-    as-natural-requires
-    enum-told
-    enum-known-k
-    classes-requires
-    cast-if1
-    cast-t10
+    (λ c κs. search needs)
+    (λ c. search needs)
+    (λ c. search needs)
+    (λ c κs. search needs)
+    (λ c. search needs)
+    (λ c. search needs)
     returns
     returns-2
     returns-3)

@@ -12,9 +12,6 @@ use Rattle.lookup.proofs.Saying.{class-few, runs-at, runs-past}
 use Rattle.lookup.proofs.class_runs.Statement.{statement}
 use Rattle.lookup.proofs.class_runs.Tie as tie
 
-classes-requires : tie.Need-classes-requires
-classes-requires c κs = search needs
-
 row-requires : tie.Need-row-requires
 row-requires c κs =
     let s = c .before .before .before in
@@ -32,4 +29,4 @@ returns-2 : tie.Need-returns-2
 returns-2 c s m b = let n = classes-at s _ m b in runs-past m _ (omega arith)
 
 pub class-runs-spec : {M : Type 1} → statement M
-class-runs-spec = tie.close (tie.spec classes-requires row-requires returns returns-2)
+class-runs-spec = tie.close (tie.spec (λ c κs. search needs) row-requires returns returns-2)

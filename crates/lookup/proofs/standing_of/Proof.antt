@@ -39,33 +39,6 @@ body-is : (c : tie.After-i) (s : Text) (m : Model)
 unfolding BodySaid
 body-is c s m b = subst (BodySaid _ m _) (c .before .before .before .before .before .body .given .1) (c .before .before .before .before .before .before .before .body-of .ensures s m b)
 
-body-of-requires : tie.Need-body-of-requires
-body-of-requires c κs = search needs
-
-enum-told : tie.Need-enum-told
-enum-told c = search needs
-
-enum-known-body : tie.Need-enum-known-body
-enum-known-body c = search needs
-
-of-call-requires : tie.Need-of-call-requires
-of-call-requires c κs = search needs
-
-as-natural-requires : tie.Need-as-natural-requires
-as-natural-requires c κs = search needs
-
-enum-told-2 : tie.Need-enum-told-2
-enum-told-2 c = search needs
-
-enum-known-i : tie.Need-enum-known-i
-enum-known-i c = search needs
-
-cast-if1 : tie.Need-cast-if1
-cast-if1 c = search needs
-
-cast-t14 : tie.Need-cast-t14
-cast-t14 c = search needs
-
 returns : tie.Need-returns
 unfolding BodySaid StandingSaid
 returns c s m b = stands-nowhere m _ _ (subst (BodySaid _ m _) (c .enum-told .given .1) (c .before .before .body-of .ensures s m b))
@@ -94,15 +67,15 @@ pub standing-of-spec : {M : Type 1} → statement M
 standing-of-spec =
     tie.close
     (tie.spec
-    body-of-requires
-    enum-told
-    enum-known-body
-    of-call-requires
-    as-natural-requires
-    enum-told-2
-    enum-known-i
-    cast-if1
-    cast-t14
+    (λ c κs. search needs)
+    (λ c. search needs)
+    (λ c. search needs)
+    (λ c κs. search needs)
+    (λ c κs. search needs)
+    (λ c. search needs)
+    (λ c. search needs)
+    (λ c. search needs)
+    (λ c. search needs)
     returns
     returns-2
     returns-3

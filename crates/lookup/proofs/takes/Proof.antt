@@ -24,12 +24,6 @@ test c x n e f =
     ∙ sym (c .is-number .ensures)
     ∙ e
 
-method-row-requires : tie.Need-method-row-requires
-method-row-requires c κs = search needs
-
-is-number-requires : tie.Need-is-number-requires
-is-number-requires c κs = search needs
-
 returns : tie.Need-returns
 unfolding BodySaid
 returns c s m k b t e f a =
@@ -55,4 +49,4 @@ returns-2 c s m k b t e f a =
     taken-not b _ (test (c .before) false _ (c .if1 .left) (ap (λ (x : Row). x .0) row ∙ method-at s _ m t _ k e _ b f .params))
 
 pub takes-spec : {M : Type 1} → statement M
-takes-spec = tie.close (tie.spec method-row-requires is-number-requires returns returns-2)
+takes-spec = tie.close (tie.spec (λ c κs. search needs) (λ c κs. search needs) returns returns-2)

@@ -7,12 +7,6 @@ use Rattle.performing.proofs.Choosing.{few-objects, callee-in-use, labe
 use Rattle.performing.proofs.at_label.Statement.{statement}
 use Rattle.performing.proofs.at_label.Tie as tie
 
-arrive-requires : tie.Need-arrive-requires
-arrive-requires c κs = search needs
-
-same-length : tie.Need-same-length
-same-length c = search needs
-
 returns : tie.Need-returns
 returns c =
     let s = c .before .before .before .before .before .before .before in
@@ -22,9 +16,6 @@ bind-requires : tie.Need-bind-requires
 bind-requires c κs =
     let p = c .before .before .before .before .before .before .pre in
     (told _ _ _ (p .0), (few-objects _ _ (p .1 .0), callee-in-use _ _ (p .1 .0) _ (p .1 .1)))
-
-same-length-2 : tie.Need-same-length-2
-same-length-2 c = search needs
 
 returns-2 : tie.Need-returns-2
 returns-2 c =
@@ -36,19 +27,10 @@ start-requires c κs =
     let p = c .before .before .before .before .before .before .before .pre in
     (p .0, (few-objects _ _ (p .1 .0), (callee-in-use _ _ (p .1 .0) _ (p .1 .1), label-few _ _ (p .1 .0) _ (p .1 .1))))
 
-same-length-3 : tie.Need-same-length-3
-same-length-3 c = search needs
-
 returns-3 : tie.Need-returns-3
 returns-3 c =
     let s = c .before .before .before .before .before .before .before .before .before in
     same-done _ _ _ _ _ (at-start _ _ _ _ (kind-is _ 4 (s .fits .kind) (omega arith) (c .before .before .before .if3 .taken))) (c .before .start .ensures)
-
-deliver-requires : tie.Need-deliver-requires
-deliver-requires c κs = search needs
-
-same-length-4 : tie.Need-same-length-4
-same-length-4 c = search needs
 
 returns-4 : tie.Need-returns-4
 returns-4 c =
@@ -62,16 +44,16 @@ pub at-label-spec : {M : Type 1} → statement M
 at-label-spec =
     tie.close
     (tie.spec
-    arrive-requires
-    same-length
+    (λ c κs. search needs)
+    (λ c. search needs)
     returns
     bind-requires
-    same-length-2
+    (λ c. search needs)
     returns-2
     start-requires
-    same-length-3
+    (λ c. search needs)
     returns-3
-    deliver-requires
-    same-length-4
+    (λ c κs. search needs)
+    (λ c. search needs)
     returns-4
     returns-5)

@@ -39,53 +39,23 @@ object-of-requires c κs =
     let p = c .before .before .before .before .before .before .before .before .pre in
     omega (arith, few-objects _ _ (p .1))
 
-enum-told : tie.Need-enum-told
-enum-told c = search needs
-
-enum-known-o : tie.Need-enum-known-o
-enum-known-o c = search needs
-
-exec-requires : tie.Need-exec-requires
-exec-requires c κs = search needs
-
-same-length : tie.Need-same-length
-same-length c = search needs
-
 returns : tie.Need-returns
 returns c =
     refused-done _ _ _ (exec-none _ _ _ (is-exec (c .before .before .before .before .before)) (object-none _ (sym (object-found (c .before .before)) ∙ c .enum-told .given .1)))
-
-same-length-2 : tie.Need-same-length-2
-same-length-2 c = search needs
 
 returns-2 : tie.Need-returns-2
 returns-2 c =
     let o = c .before .before .before .before in
     same-done _ _ _ _ _ (exec-some _ _ _ _ (is-exec (o .before .before .before .before .before)) (object-some _ _ (sym (object-found (o .before .before)) ∙ o .o .given .1))) (c .before .exec .ensures)
 
-label-of-requires : tie.Need-label-of-requires
-label-of-requires c κs = search needs
-
-enum-told-2 : tie.Need-enum-told-2
-enum-told-2 c = search needs
-
-enum-known-l : tie.Need-enum-known-l
-enum-known-l c = search needs
-
 at-label-requires : tie.Need-at-label-requires
 at-label-requires c κs =
     let l = c .before .before .before in
     (l .before .before .before .before .before .before .before .before .before .before .before .pre .0, (l .before .before .before .before .before .before .before .before .before .before .before .pre .1, label-within _ _ _ (label-is l)))
 
-same-length-3 : tie.Need-same-length-3
-same-length-3 c = search needs
-
 returns-3 : tie.Need-returns-3
 returns-3 c =
     refused-done _ _ _ (label-none _ _ _ (c .before .before .before .before .before .if1 .left) (none-label _ (sym (label-found (c .before .before)) ∙ c .enum-told2 .given .1)))
-
-same-length-4 : tie.Need-same-length-4
-same-length-4 c = search needs
 
 returns-4 : tie.Need-returns-4
 returns-4 c =
@@ -100,18 +70,18 @@ next-spec =
     tie.close
     (tie.spec
     object-of-requires
-    enum-told
-    enum-known-o
-    exec-requires
-    same-length
+    (λ c. search needs)
+    (λ c. search needs)
+    (λ c κs. search needs)
+    (λ c. search needs)
     returns
-    same-length-2
+    (λ c. search needs)
     returns-2
-    label-of-requires
-    enum-told-2
-    enum-known-l
+    (λ c κs. search needs)
+    (λ c. search needs)
+    (λ c. search needs)
     at-label-requires
-    same-length-3
+    (λ c. search needs)
     returns-3
-    same-length-4
+    (λ c. search needs)
     returns-4)

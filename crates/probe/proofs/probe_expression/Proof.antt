@@ -9,15 +9,6 @@ use Rattle.terms.specs.Vocabulary.Readers.{expressionRead}
 use Rattle.probe.proofs.probe_expression.Statement.{statement}
 use Rattle.probe.proofs.probe_expression.Tie as tie
 
-around-requires : tie.Need-around-requires
-around-requires c κs = search needs
-
-expression-requires : tie.Need-expression-requires
-expression-requires c κs = search needs
-
-pack-requires : tie.Need-pack-requires
-pack-requires c κs = search needs
-
 returns : tie.Need-returns
 returns c =
     let s = c .before .before .before .before in
@@ -26,4 +17,4 @@ returns c =
 
 pub probe-expression-spec : {M : Type 1} → statement M
 probe-expression-spec =
-    tie.close (tie.spec around-requires expression-requires pack-requires returns)
+    tie.close (tie.spec (λ c κs. search needs) (λ c κs. search needs) (λ c κs. search needs) returns)

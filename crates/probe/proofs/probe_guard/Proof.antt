@@ -9,15 +9,6 @@ use Rattle.terms.specs.Vocabulary.Readers.{guardRead}
 use Rattle.probe.proofs.probe_guard.Statement.{statement}
 use Rattle.probe.proofs.probe_guard.Tie as tie
 
-around-requires : tie.Need-around-requires
-around-requires c κs = search needs
-
-guard-requires : tie.Need-guard-requires
-guard-requires c κs = search needs
-
-pack-requires : tie.Need-pack-requires
-pack-requires c κs = search needs
-
 returns : tie.Need-returns
 returns c =
     let s = c .before .before .before .before in
@@ -25,4 +16,4 @@ returns c =
     ∙ ap packedValue (c .before .guard .ensures ∙ ap (λ a. asValue (guardRead (now (s .args .cells)) a (now (s .args .s)) brackets (s .args .at))) (c .before .before .around .ensures))
 
 pub probe-guard-spec : {M : Type 1} → statement M
-probe-guard-spec = tie.close (tie.spec around-requires guard-requires pack-requires returns)
+probe-guard-spec = tie.close (tie.spec (λ c κs. search needs) (λ c κs. search needs) (λ c κs. search needs) returns)

@@ -34,9 +34,6 @@ within c =
     let s = l .before .part-read .result .now in
     omega (arith, c .line-end .ensures, line-within (drop (l .loop .at) s), length-drop (l .loop .at) s)
 
-part-read-requires : tie.Need-part-read-requires Inv-loop μ-loop
-part-read-requires c κs = search needs
-
 loop-holds : tie.Need-loop-holds Inv-loop μ-loop
 loop-holds c =
     let s = c .before .before .before .before .before in
@@ -46,9 +43,6 @@ loop-holds c =
     let ran = subst (λ left. Ran (modelOf (a .text .now)) (a .cells .now) all left (a .cells .now) (a .answers .now) 0) e (ran-none _ _ all (s .pre .1 .0) _) in
     (omega arith, omega arith, refl, refl, ran, refl)
 
-line-end-requires : tie.Need-line-end-requires Inv-loop μ-loop
-line-end-requires c κs = search needs
-
 sub-choice-of : tie.Need-sub-choice-of Inv-loop μ-loop
 sub-choice-of c = let e = c .line-end .ensures in omega arith
 
@@ -57,9 +51,6 @@ part-choice-of-start c = let e = c .line-end .ensures in omega arith
 
 part-choice-of-end : tie.Need-part-choice-of-end Inv-loop μ-loop
 part-choice-of-end c = let e = within c in omega arith
-
-choice-of-requires : tie.Need-choice-of-requires Inv-loop μ-loop
-choice-of-requires c κs = search needs
 
 perform-requires : tie.Need-perform-requires Inv-loop μ-loop
 perform-requires c κs =
@@ -102,12 +93,6 @@ loop-again c =
       behind-stored _ _ _ (l .loop .count) _ (p .ensures .1) (l .loop .inv .5),
     )
 
-same-length : tie.Need-same-length Inv-loop μ-loop
-same-length c = search needs
-
-same-length-2 : tie.Need-same-length-2 Inv-loop μ-loop
-same-length-2 c = search needs
-
 returns : tie.Need-returns Inv-loop μ-loop
 returns c =
     let l = c .before in
@@ -125,18 +110,18 @@ play-spec =
     (tie.spec
     Inv-loop
     μ-loop
-    part-read-requires
+    (λ c κs. search needs)
     loop-holds
-    line-end-requires
+    (λ c κs. search needs)
     sub-choice-of
     part-choice-of-start
     part-choice-of-end
-    choice-of-requires
+    (λ c κs. search needs)
     perform-requires
     add-count
     add-at
     loop-less
     loop-again
-    same-length
-    same-length-2
+    (λ c. search needs)
+    (λ c. search needs)
     returns)

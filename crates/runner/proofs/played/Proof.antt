@@ -31,24 +31,6 @@ answered c =
     let a = c .before .before .before .before .before .before .before .before .before .before .before .before .before .before .before .before .before .before .before .before .before in
     length-take-le (c .play .result) (c .play .last .1 .1 .1 .1 .1 .0) (omega (arith, c .play .ensures .1 .1 .1, c .play .kept .1 .1 .1 .1 .1 .0, a .pre .1 .1 .0))
 
-start-in-requires : tie.Need-start-in-requires
-start-in-requires c κs = search needs
-
-refusal-requires : tie.Need-refusal-requires
-refusal-requires c κs = search needs
-
-same-length : tie.Need-same-length
-same-length c = search needs
-
-same-length-2 : tie.Need-same-length-2
-same-length-2 c = search needs
-
-same-length-3 : tie.Need-same-length-3
-same-length-3 c = search needs
-
-same-length-4 : tie.Need-same-length-4
-same-length-4 c = search needs
-
 returns : tie.Need-returns
 returns c =
     let q = c .before .before in
@@ -68,9 +50,6 @@ play-requires c κs =
     let conf = session-configured (a .args .text .now) (a .args .cells .now) (a .pre .1 .0) _ (k .accepted) _ (st .start-in .ensures .1 .0) in
     (k, (conf, a .pre .1 .1 .0))
 
-slice-reshare-prefix-report : tie.Need-slice-reshare-prefix-report
-slice-reshare-prefix-report c = search needs
-
 slice-aggregate-report : tie.Need-slice-aggregate-report
 slice-aggregate-report c = sym (answered (c .before .before .before))
 
@@ -79,21 +58,6 @@ report-requires c κs =
     let p = c .before .before .before .before .before in
     let a = p .before .before .before .before .before .before .before .before .before .before .before .before .before .before .before .before .before .before .before .before .before in
     (omega (arith, answered p, p .play .ensures .1 .1 .1), a .pre .1 .1 .1)
-
-same-length-5 : tie.Need-same-length-5
-same-length-5 c = search needs
-
-same-length-6 : tie.Need-same-length-6
-same-length-6 c = search needs
-
-same-length-7 : tie.Need-same-length-7
-same-length-7 c = search needs
-
-same-length-8 : tie.Need-same-length-8
-same-length-8 c = search needs
-
-same-length-9 : tie.Need-same-length-9
-same-length-9 c = search needs
 
 returns-2 : tie.Need-returns-2
 returns-2 c =
@@ -110,20 +74,20 @@ pub played-spec : {M : Type 1} → statement M
 played-spec =
     tie.close
     (tie.spec
-    start-in-requires
-    refusal-requires
-    same-length
-    same-length-2
-    same-length-3
-    same-length-4
+    (λ c κs. search needs)
+    (λ c κs. search needs)
+    (λ c. search needs)
+    (λ c. search needs)
+    (λ c. search needs)
+    (λ c. search needs)
     returns
     play-requires
-    slice-reshare-prefix-report
+    (λ c. search needs)
     slice-aggregate-report
     report-requires
-    same-length-5
-    same-length-6
-    same-length-7
-    same-length-8
-    same-length-9
+    (λ c. search needs)
+    (λ c. search needs)
+    (λ c. search needs)
+    (λ c. search needs)
+    (λ c. search needs)
     returns-2)

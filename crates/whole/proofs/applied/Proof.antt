@@ -15,21 +15,6 @@ unfolding applied
 left-out o (Value y) = refl
 left-out o OutOfRange = refl
 
-enum-told : tie.Need-enum-told
-enum-told c = search needs
-
-enum-known-left : tie.Need-enum-known-left
-enum-known-left c = search needs
-
-enum-told-2 : tie.Need-enum-told-2
-enum-told-2 c = search needs
-
-enum-known-right : tie.Need-enum-known-right
-enum-known-right c = search needs
-
-apply-requires : tie.Need-apply-requires
-apply-requires c κs = search needs
-
 returns : tie.Need-returns
 returns c = rw (c .enum-told .given .1) (sym (left-out _ _))
 
@@ -51,4 +36,4 @@ returns-3 c =
 pub applied-spec : {M : Type 1} → statement M
 applied-spec =
     tie.close
-    (tie.spec enum-told enum-known-left enum-told-2 enum-known-right apply-requires returns returns-2 returns-3)
+    (tie.spec (λ c. search needs) (λ c. search needs) (λ c. search needs) (λ c. search needs) (λ c κs. search needs) returns returns-2 returns-3)

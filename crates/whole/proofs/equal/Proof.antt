@@ -9,9 +9,6 @@ use Rattle.whole.proofs.Ranges.{same-bits}
 use Rattle.whole.proofs.equal.Statement.{statement}
 use Rattle.whole.proofs.equal.Tie as tie
 
-truth-requires : tie.Need-truth-requires
-truth-requires c κs = search needs
-
 returns : tie.Need-returns
 unfolding apply
 returns c =
@@ -19,4 +16,4 @@ returns c =
     ap Value (toZ-ofZ w32 (c .truth .result) (record { sfits = c .truth .ok }) ∙ c .truth .ensures ∙ ap truth (same-bits _ _ (s .fits .x) (s .fits .y)))
 
 pub equal-spec : {M : Type 1} → statement M
-equal-spec = tie.close (tie.spec truth-requires returns)
+equal-spec = tie.close (tie.spec (λ c κs. search needs) returns)

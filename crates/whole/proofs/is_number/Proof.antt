@@ -9,15 +9,6 @@ use Rattle.whole.specs.Vocabulary.Naturals.{asNatural}
 use Rattle.whole.proofs.is_number.Statement.{statement}
 use Rattle.whole.proofs.is_number.Tie as tie
 
-as-natural-requires : tie.Need-as-natural-requires
-as-natural-requires c κs = search needs
-
-enum-known-m : tie.Need-enum-known-m
-enum-known-m c = search needs
-
-enum-told : tie.Need-enum-told
-enum-told c = search needs
-
 returns : tie.Need-returns
 unfolding eqZ
 returns c =
@@ -34,4 +25,4 @@ returns-2 c =
     (ap (λ z. asNatural (natural z)) (sym (toZ-ofZ w32 _ (s .fits .z))) ∙ sym (c .before .before .as-natural .ensures) ∙ c .enum-told .given .1))
 
 pub is-number-spec : {M : Type 1} → statement M
-is-number-spec = tie.close (tie.spec as-natural-requires enum-known-m enum-told returns returns-2)
+is-number-spec = tie.close (tie.spec (λ c κs. search needs) (λ c. search needs) (λ c. search needs) returns returns-2)

@@ -9,9 +9,6 @@ use Rattle.whole.specs.declared.Worked.the-variants.{Value}
 use Rattle.whole.proofs.less.Statement.{statement}
 use Rattle.whole.proofs.less.Tie as tie
 
-truth-requires : tie.Need-truth-requires
-truth-requires c κs = search needs
-
 returns : tie.Need-returns
 unfolding apply
 returns c =
@@ -19,4 +16,4 @@ returns c =
     ap Value (toZ-ofZ w32 (c .truth .result) (record { sfits = c .truth .ok }) ∙ c .truth .ensures ∙ ap truth (ap₂ ltZ (toZ-ofZ w32 _ (s .fits .x)) (toZ-ofZ w32 _ (s .fits .y))))
 
 pub less-spec : {M : Type 1} → statement M
-less-spec = tie.close (tie.spec truth-requires returns)
+less-spec = tie.close (tie.spec (λ c κs. search needs) returns)

@@ -9,20 +9,11 @@ use Rattle.whole.proofs.Ranges.{read-back, product-fits}
 use Rattle.whole.proofs.product.Statement.{statement}
 use Rattle.whole.proofs.product.Tie as tie
 
-wide-requires : tie.Need-wide-requires
-wide-requires c κs = search needs
-
-wide-requires-2 : tie.Need-wide-requires-2
-wide-requires-2 c κs = search needs
-
 mul-within : tie.Need-mul-within
 mul-within c =
     let s = c .before .before in
     rw (read-back (s .args .x) _ (s .fits .x) (c .before .wide .ensures), read-back (s .args .y) _ (s .fits .y) (c .wide2 .ensures))
     (product-fits (s .args .x) (s .args .y) (s .fits .x) (s .fits .y))
-
-within-requires : tie.Need-within-requires
-within-requires c κs = search needs
 
 returns : tie.Need-returns
 unfolding apply
@@ -34,4 +25,4 @@ returns c =
     ∙ ap within (ap (λ z. mir.Val.toZ w64 (mir.Val.ofZ w64 z)) (ap₂ _*ℤ_ x y) ∙ toZ-ofZ w64 _ (product-fits _ _ (s .fits .x) (s .fits .y)))
 
 pub product-spec : {M : Type 1} → statement M
-product-spec = tie.close (tie.spec wide-requires wide-requires-2 mul-within within-requires returns)
+product-spec = tie.close (tie.spec (λ c κs. search needs) (λ c κs. search needs) mul-within (λ c κs. search needs) returns)

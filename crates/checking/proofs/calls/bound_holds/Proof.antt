@@ -44,12 +44,6 @@ locals-told c =
 standing-of-requires : tie.Need-standing-of-requires
 standing-of-requires c κs = let p = c .before .before .before .pre in (told _ _ _ (p .0), p .1)
 
-enum-told : tie.Need-enum-told
-enum-told c = search needs
-
-enum-known-at : tie.Need-enum-known-at
-enum-known-at c = search needs
-
 locals-zero-requires : tie.Need-locals-zero-requires
 locals-zero-requires c κs = locals-few (c .before .before)
 
@@ -57,9 +51,6 @@ shape-requires : tie.Need-shape-requires
 shape-requires c κs =
     let a = c .before .before .before .before in
     line-stands _ _ _ (a .before .before .before .before .before .before .pre .0) _ _ _ (stands a)
-
-line-holds-requires : tie.Need-line-holds-requires
-line-holds-requires c κs = search needs
 
 returns : tie.Need-returns
 unfolding StandingSaid
@@ -86,11 +77,11 @@ bound-holds-spec =
     tie.close
     (tie.spec
     standing-of-requires
-    enum-told
-    enum-known-at
+    (λ c. search needs)
+    (λ c. search needs)
     locals-zero-requires
     shape-requires
-    line-holds-requires
+    (λ c κs. search needs)
     returns
     returns-2
     returns-3)

@@ -62,23 +62,8 @@ then c r e =
     (passed _ _ (held (n .named-by-callee .ensures _) (k .before .if2 .left)) (passed _ _ (held (k .marks-hold .ensures) (c .before .if3 .left)) e))
     ∙ in-turn _ _ _
 
-numbers-hold-requires : tie.Need-numbers-hold-requires
-numbers-hold-requires c κs = search needs
-
 returns : tie.Need-returns
 returns c = stopped _ _ (unheld (c .before .numbers-hold .ensures _) (c .if1 .taken)) ∙ in-turn _ _ _
-
-of-call-requires : tie.Need-of-call-requires
-of-call-requires c κs = search needs
-
-object-of-requires : tie.Need-object-of-requires
-object-of-requires c κs = search needs
-
-enum-told : tie.Need-enum-told
-enum-told c = search needs
-
-enum-known-o : tie.Need-enum-known-o
-enum-known-o c = search needs
 
 named-by-callee-requires : tie.Need-named-by-callee-requires
 named-by-callee-requires c κs = callee-is (c .before)
@@ -87,9 +72,6 @@ returns-2 : tie.Need-returns-2
 returns-2 c =
     let n = c .before in
     passed _ _ (numbered (n .before .before .before .before)) (stopped _ _ (unheld (n .named-by-callee .ensures _) (c .if2 .taken))) ∙ in-turn _ _ _
-
-marks-hold-requires : tie.Need-marks-hold-requires
-marks-hold-requires c κs = search needs
 
 returns-3 : tie.Need-returns-3
 returns-3 c =
@@ -124,15 +106,15 @@ pub call-holds-spec : {M : Type 1} → statement M
 call-holds-spec =
     tie.close
     (tie.spec
-    numbers-hold-requires
+    (λ c κs. search needs)
     returns
-    of-call-requires
-    object-of-requires
-    enum-told
-    enum-known-o
+    (λ c κs. search needs)
+    (λ c κs. search needs)
+    (λ c. search needs)
+    (λ c. search needs)
     named-by-callee-requires
     returns-2
-    marks-hold-requires
+    (λ c κs. search needs)
     returns-3
     stage-holds-requires
     returns-4

@@ -40,30 +40,15 @@ then c m r e =
     (passed _ _ (held (i .in-callerless-stage .ensures) (n .before .before .if2 .left))
     (passed _ _ (held (method-told n) (c .before .if3 .left)) (last _ (e ∙ ap (runsOf m (now (s .args .cells))) (sym (nat-of (s .pre .1)))))))
 
-of-call-requires : tie.Need-of-call-requires
-of-call-requires c κs = search needs
-
-is-number-requires : tie.Need-is-number-requires
-is-number-requires c κs = search needs
-
 returns : tie.Need-returns
 unfolding callerlessHolds
 returns c s m b = unasked _ _ (unheld (caller-told (c .before)) (c .if1 .taken))
-
-in-callerless-stage-requires : tie.Need-in-callerless-stage-requires
-in-callerless-stage-requires c κs = search needs
 
 returns-2 : tie.Need-returns-2
 unfolding callerlessHolds
 returns-2 c s m b =
     let i = c .before in
     under _ _ (held (caller-told (i .before .before)) (i .before .if1 .left)) (stopped _ _ (unheld (i .in-callerless-stage .ensures) (c .if2 .taken)))
-
-of-call-requires-2 : tie.Need-of-call-requires-2
-of-call-requires-2 c κs = search needs
-
-is-number-requires-2 : tie.Need-is-number-requires-2
-is-number-requires-2 c κs = search needs
 
 returns-3 : tie.Need-returns-3
 unfolding callerlessHolds
@@ -72,18 +57,6 @@ returns-3 c s m b =
     let i = n .before .before .before in
     under _ _ (held (caller-told (i .before .before)) (i .before .if1 .left))
     (passed _ _ (held (i .in-callerless-stage .ensures) (n .before .before .if2 .left)) (stopped _ _ (unheld (method-told n) (c .if3 .taken))))
-
-class-of-requires : tie.Need-class-of-requires
-class-of-requires c κs = search needs
-
-enum-told : tie.Need-enum-told
-enum-told c = search needs
-
-enum-known-k : tie.Need-enum-known-k
-enum-known-k c = search needs
-
-class-runs-requires : tie.Need-class-runs-requires
-class-runs-requires c κs = search needs
 
 returns-4 : tie.Need-returns-4
 returns-4 c s m b =
@@ -101,17 +74,17 @@ pub callerless-holds-spec : {M : Type 1} → statement M
 callerless-holds-spec =
     tie.close
     (tie.spec
-    of-call-requires
-    is-number-requires
+    (λ c κs. search needs)
+    (λ c κs. search needs)
     returns
-    in-callerless-stage-requires
+    (λ c κs. search needs)
     returns-2
-    of-call-requires-2
-    is-number-requires-2
+    (λ c κs. search needs)
+    (λ c κs. search needs)
     returns-3
-    class-of-requires
-    enum-told
-    enum-known-k
-    class-runs-requires
+    (λ c κs. search needs)
+    (λ c. search needs)
+    (λ c. search needs)
+    (λ c κs. search needs)
     returns-4
     returns-5)

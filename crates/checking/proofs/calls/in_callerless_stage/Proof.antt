@@ -5,12 +5,6 @@ use Rattle.checking.proofs.Tests.{one, other}
 use Rattle.checking.proofs.calls.in_callerless_stage.Statement.{statement}
 use Rattle.checking.proofs.calls.in_callerless_stage.Tie as tie
 
-in-stages-requires : tie.Need-in-stages-requires
-in-stages-requires c κs = search needs
-
-in-stage-requires : tie.Need-in-stage-requires
-in-stage-requires c κs = search needs
-
 returns : tie.Need-returns
 returns c = one _ _ (sym (c .before .in-stages .ensures) ∙ c .if1 .taken)
 
@@ -18,4 +12,4 @@ returns-2 : tie.Need-returns-2
 returns-2 c = other _ _ (sym (c .before .before .in-stages .ensures) ∙ c .before .if1 .left) (c .in-stage .ensures)
 
 pub in-callerless-stage-spec : {M : Type 1} → statement M
-in-callerless-stage-spec = tie.close (tie.spec in-stages-requires in-stage-requires returns returns-2)
+in-callerless-stage-spec = tie.close (tie.spec (λ c κs. search needs) (λ c κs. search needs) returns returns-2)

@@ -47,37 +47,16 @@ shape-told : (l k : Shape) (n : ℕ) → n ≡ shapeNumber k → isShape l k ≡
 unfolding isShape
 shape-told l k n e = eqb-swap (shapeNumber l) (shapeNumber k) ∙ ap (λ i. eqb i (shapeNumber l)) (sym e)
 
-of-call-requires : tie.Need-of-call-requires
-of-call-requires c κs = search needs
-
-is-number-requires : tie.Need-is-number-requires
-is-number-requires c κs = search needs
-
 returns : tie.Need-returns
 unfolding shapeNumber
 returns c m s e =
     not-await m _ _ s (sym (one-told (c .before .before)) ∙ c .before .if1 .taken) (shape-told Variants.Await _ _ e ∙ ne-eqb _ 6 (c .if2 .taken))
-
-in-stages-requires : tie.Need-in-stages-requires
-in-stages-requires c κs = search needs
 
 returns-2 : tie.Need-returns-2
 unfolding shapeNumber
 returns-2 c m s e =
     let t = c .before .before in
     c .in-stages .ensures ∙ at-await m _ _ s (sym (one-told (t .before)) ∙ t .if1 .taken) (shape-told Variants.Await _ _ e ∙ eq-eqb _ 6 (c .before .if2 .left))
-
-is-number-requires-2 : tie.Need-is-number-requires-2
-is-number-requires-2 c κs = search needs
-
-in-stage-requires : tie.Need-in-stage-requires
-in-stage-requires c κs = search needs
-
-of-call-requires-2 : tie.Need-of-call-requires-2
-of-call-requires-2 c κs = search needs
-
-is-number-requires-3 : tie.Need-is-number-requires-3
-is-number-requires-3 c κs = search needs
 
 returns-3 : tie.Need-returns-3
 returns-3 c m s e =
@@ -86,9 +65,6 @@ returns-3 c m s e =
     c .is-number3 .ensures
     ∙ ap (λ y. eqZ y (pos 0)) (handed _ _ (c .before .of-call2 .ok) (c .before .of-call2 .ensures))
     ∙ suspended m _ _ s (sym (one-told (z .before .before)) ∙ z .before .if1 .left) (sym (zero-told z) ∙ i .before .if3 .taken) (sym (i .in-stage .ensures) ∙ c .before .before .if4 .taken)
-
-in-stages-requires-2 : tie.Need-in-stages-requires-2
-in-stages-requires-2 c κs = search needs
 
 returns-4 : tie.Need-returns-4
 unfolding shapeNumber
@@ -107,16 +83,16 @@ pub line-holds-spec : {M : Type 1} → statement M
 line-holds-spec =
     tie.close
     (tie.spec
-    of-call-requires
-    is-number-requires
+    (λ c κs. search needs)
+    (λ c κs. search needs)
     returns
-    in-stages-requires
+    (λ c κs. search needs)
     returns-2
-    is-number-requires-2
-    in-stage-requires
-    of-call-requires-2
-    is-number-requires-3
+    (λ c κs. search needs)
+    (λ c κs. search needs)
+    (λ c κs. search needs)
+    (λ c κs. search needs)
     returns-3
-    in-stages-requires-2
+    (λ c κs. search needs)
     returns-4
     returns-5)

@@ -35,27 +35,12 @@ cell-told c = sym (same-bits _ (pos 0) (record { sfits = c .of-call .ok }) (reco
 loop-holds : tie.Need-loop-holds Inv-loop μ-loop
 loop-holds c = (omega arith, refl)
 
-sub-i : tie.Need-sub-i Inv-loop μ-loop
-sub-i c = search needs
-
-cast-of-call : tie.Need-cast-of-call Inv-loop μ-loop
-cast-of-call c = search needs
-
-add-of-call : tie.Need-add-of-call Inv-loop μ-loop
-add-of-call c = search needs
-
-of-call-requires : tie.Need-of-call-requires Inv-loop μ-loop
-of-call-requires c κs = search needs
-
 returns : tie.Need-returns Inv-loop μ-loop
 returns c =
     let w = c .before .before .before in
     let a = w .before .args in
     sym (field-held (a .from) (λ i. ofCall (now (a .cells)) (a .l .0) (local i)) (w .loop .i) (c .before .before .loop-test .taken) (cell-told (c .before) ∙ ne-eqb _ 0 (c .if1 .taken)))
     ∙ w .loop .inv .1
-
-loop-less : tie.Need-loop-less Inv-loop μ-loop
-loop-less c = search needs
 
 loop-again : tie.Need-loop-again Inv-loop μ-loop
 loop-again c =
@@ -78,11 +63,11 @@ locals-zero-spec =
     Inv-loop
     μ-loop
     loop-holds
-    sub-i
-    cast-of-call
-    add-of-call
-    of-call-requires
+    (λ c. search needs)
+    (λ c. search needs)
+    (λ c. search needs)
+    (λ c κs. search needs)
     returns
-    loop-less
+    (λ c. search needs)
     loop-again
     returns-2)

@@ -16,28 +16,13 @@ cleared-told : (c : tie.After-between)
     c .between .result ≡ between (pos 0) (pos 1) (ofCall (now (s .cells)) (s .l .0) cleared)
 cleared-told c = c .between .ensures ∙ ap (between (pos 0) (pos 1)) (handed _ _ (c .before .of-call .ok) (c .before .of-call .ensures))
 
-of-call-requires : tie.Need-of-call-requires
-of-call-requires c κs = search needs
-
-between-requires : tie.Need-between-requires
-between-requires c κs = search needs
-
 returns : tie.Need-returns
 returns c = stopped _ _ (unheld (cleared-told (c .before)) (c .if1 .taken))
-
-in-stages-requires : tie.Need-in-stages-requires
-in-stages-requires c κs = search needs
 
 returns-2 : tie.Need-returns-2
 returns-2 c =
     let i = c .before in
     passed _ _ (held (cleared-told (i .before .before)) (i .before .if1 .left)) (one _ _ (sym (i .in-stages .ensures) ∙ c .if2 .taken))
-
-of-call-requires-2 : tie.Need-of-call-requires-2
-of-call-requires-2 c κs = search needs
-
-is-number-requires : tie.Need-is-number-requires
-is-number-requires c κs = search needs
 
 returns-3 : tie.Need-returns-3
 returns-3 c =
@@ -50,11 +35,11 @@ pub marks-hold-spec : {M : Type 1} → statement M
 marks-hold-spec =
     tie.close
     (tie.spec
-    of-call-requires
-    between-requires
+    (λ c κs. search needs)
+    (λ c κs. search needs)
     returns
-    in-stages-requires
+    (λ c κs. search needs)
     returns-2
-    of-call-requires-2
-    is-number-requires
+    (λ c κs. search needs)
+    (λ c κs. search needs)
     returns-3)

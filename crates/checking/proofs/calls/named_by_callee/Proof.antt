@@ -12,15 +12,6 @@ use Rattle.checking.proofs.Tests.{under, unasked}
 use Rattle.checking.proofs.calls.named_by_callee.Statement.{statement}
 use Rattle.checking.proofs.calls.named_by_callee.Tie as tie
 
-in-stage-requires : tie.Need-in-stage-requires
-in-stage-requires c κs = search needs
-
-of-object-requires : tie.Need-of-object-requires
-of-object-requires c κs = search needs
-
-is-number-requires : tie.Need-is-number-requires
-is-number-requires c κs = search needs
-
 returns : tie.Need-returns
 unfolding namedByCallee
 returns c m =
@@ -36,4 +27,4 @@ unfolding namedByCallee
 returns-2 c m = unasked _ _ (sym (c .before .in-stage .ensures) ∙ c .if1 .left)
 
 pub named-by-callee-spec : {M : Type 1} → statement M
-named-by-callee-spec = tie.close (tie.spec in-stage-requires of-object-requires is-number-requires returns returns-2)
+named-by-callee-spec = tie.close (tie.spec (λ c κs. search needs) (λ c κs. search needs) (λ c κs. search needs) returns returns-2)

@@ -40,43 +40,19 @@ method-told : (c : tie.After-between3)
     c .between3 .result ≡ between (pos 0) (pos lastMethod) (ofCall (now (s .cells)) (s .l .0) method)
 method-told c = c .between3 .ensures ∙ ap (between (pos 0) (pos lastMethod)) (handed _ _ (c .before .of-call3 .ok) (c .before .of-call3 .ensures))
 
-in-stages-requires : tie.Need-in-stages-requires
-in-stages-requires c κs = search needs
-
 returns : tie.Need-returns
 unfolding numbersHold
 returns c m = stopped _ _ (unheld (c .before .in-stages .ensures) (c .if1 .taken))
 
-objects-requires : tie.Need-objects-requires
-objects-requires c κs = search needs
-
-of-call-requires : tie.Need-of-call-requires
-of-call-requires c κs = search needs
-
-between-requires : tie.Need-between-requires
-between-requires c κs = search needs
-
 returns-2 : tie.Need-returns-2
 unfolding numbersHold
 returns-2 c m = passed _ _ (staged (c .before .before .before)) (stopped _ _ (unheld (caller-told (c .before)) (c .if2 .taken)))
-
-of-call-requires-2 : tie.Need-of-call-requires-2
-of-call-requires-2 c κs = search needs
-
-between-requires-2 : tie.Need-between-requires-2
-between-requires-2 c κs = search needs
 
 returns-3 : tie.Need-returns-3
 unfolding numbersHold
 returns-3 c m =
     let b = c .before .before .before .before in
     passed _ _ (staged (b .before .before)) (passed _ _ (held (caller-told b) (c .before .before .before .if2 .left)) (stopped _ _ (unheld (callee-told (c .before)) (c .if3 .taken))))
-
-of-call-requires-3 : tie.Need-of-call-requires-3
-of-call-requires-3 c κs = search needs
-
-between-requires-3 : tie.Need-between-requires-3
-between-requires-3 c κs = search needs
 
 returns-4 : tie.Need-returns-4
 unfolding numbersHold
@@ -90,15 +66,15 @@ pub numbers-hold-spec : {M : Type 1} → statement M
 numbers-hold-spec =
     tie.close
     (tie.spec
-    in-stages-requires
+    (λ c κs. search needs)
     returns
-    objects-requires
-    of-call-requires
-    between-requires
+    (λ c κs. search needs)
+    (λ c κs. search needs)
+    (λ c κs. search needs)
     returns-2
-    of-call-requires-2
-    between-requires-2
+    (λ c κs. search needs)
+    (λ c κs. search needs)
     returns-3
-    of-call-requires-3
-    between-requires-3
+    (λ c κs. search needs)
+    (λ c κs. search needs)
     returns-4)

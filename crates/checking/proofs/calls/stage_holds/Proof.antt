@@ -5,15 +5,6 @@ use Rattle.checking.proofs.InTurn.{from-bound, before-bound}
 use Rattle.checking.proofs.calls.stage_holds.Statement.{statement}
 use Rattle.checking.proofs.calls.stage_holds.Tie as tie
 
-in-stages-requires : tie.Need-in-stages-requires
-in-stages-requires c κs = search needs
-
-bound-holds-requires : tie.Need-bound-holds-requires
-bound-holds-requires c κs = search needs
-
-unbound-holds-requires : tie.Need-unbound-holds-requires
-unbound-holds-requires c κs = search needs
-
 returns : tie.Need-returns
 returns c = c .bound-holds .ensures ∙ from-bound _ _ _ (sym (c .before .before .in-stages .ensures) ∙ c .before .if1 .taken)
 
@@ -21,4 +12,4 @@ returns-2 : tie.Need-returns-2
 returns-2 c = c .unbound-holds .ensures _ ∙ before-bound _ _ _ (sym (c .before .before .in-stages .ensures) ∙ c .before .if1 .left)
 
 pub stage-holds-spec : {M : Type 1} → statement M
-stage-holds-spec = tie.close (tie.spec in-stages-requires bound-holds-requires unbound-holds-requires returns returns-2)
+stage-holds-spec = tie.close (tie.spec (λ c κs. search needs) (λ c κs. search needs) (λ c κs. search needs) returns returns-2)

@@ -65,12 +65,6 @@ line-told : (c : tie.After-is-number)
     c .is-number .result ≡ is (ofCall (now (a .cells)) (a .l .0) line) 0
 line-told c = c .is-number .ensures ∙ ap (λ z. eqZ z (pos 0)) (handed _ _ (c .before .of-call2 .ok) (c .before .of-call2 .ensures))
 
-of-call-requires : tie.Need-of-call-requires
-of-call-requires c κs = search needs
-
-between-requires : tie.Need-between-requires
-between-requires c κs = search needs
-
 returns : tie.Need-returns
 unfolding unboundHolds
 returns c m = stopped _ _ (unheld (args-told (c .before)) (c .if1 .taken))
@@ -84,22 +78,10 @@ locals-zero-requires c κs = let h = args-few c in omega arith
 returns-2 : tie.Need-returns-2
 returns-2 c m = then (c .before) m _ (stopped _ _ (unheld (locals-told (c .before)) (c .if2 .taken)))
 
-of-call-requires-2 : tie.Need-of-call-requires-2
-of-call-requires-2 c κs = search needs
-
-is-number-requires : tie.Need-is-number-requires
-is-number-requires c κs = search needs
-
 returns-3 : tie.Need-returns-3
 returns-3 c m =
     let e = c .before .before .before in
     then (e .before) m _ (passed _ _ (held (locals-told (e .before)) (e .if2 .left)) (stopped _ _ (unheld (line-told (c .before)) (c .if3 .taken))))
-
-of-call-requires-3 : tie.Need-of-call-requires-3
-of-call-requires-3 c κs = search needs
-
-is-number-requires-2 : tie.Need-is-number-requires-2
-is-number-requires-2 c κs = search needs
 
 returns-4 : tie.Need-returns-4
 returns-4 c m =
@@ -114,15 +96,15 @@ pub unbound-holds-spec : {M : Type 1} → statement M
 unbound-holds-spec =
     tie.close
     (tie.spec
-    of-call-requires
-    between-requires
+    (λ c κs. search needs)
+    (λ c κs. search needs)
     returns
     cast-locals-zero
     locals-zero-requires
     returns-2
-    of-call-requires-2
-    is-number-requires
+    (λ c κs. search needs)
+    (λ c κs. search needs)
     returns-3
-    of-call-requires-3
-    is-number-requires-2
+    (λ c κs. search needs)
+    (λ c κs. search needs)
     returns-4)

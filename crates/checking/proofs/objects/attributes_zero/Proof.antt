@@ -35,27 +35,12 @@ cell-told c = sym (same-bits _ (pos 0) (record { sfits = c .of-object .ok }) (re
 loop-holds : tie.Need-loop-holds Inv-loop μ-loop
 loop-holds c = (omega arith, refl)
 
-sub-i : tie.Need-sub-i Inv-loop μ-loop
-sub-i c = search needs
-
-cast-of-object : tie.Need-cast-of-object Inv-loop μ-loop
-cast-of-object c = search needs
-
-add-of-object : tie.Need-add-of-object Inv-loop μ-loop
-add-of-object c = search needs
-
-of-object-requires : tie.Need-of-object-requires Inv-loop μ-loop
-of-object-requires c κs = search needs
-
 returns : tie.Need-returns Inv-loop μ-loop
 returns c =
     let l = c .before .before .before in
     let a = l .before .args in
     sym (field-held (a .from) (λ i. ofObject (now (a .cells)) (a .o .0) (attribute i)) (l .loop .i) (c .before .before .loop-test .taken) (cell-told (c .before) ∙ ne-eqb _ 0 (c .if1 .taken)))
     ∙ l .loop .inv .1
-
-loop-less : tie.Need-loop-less Inv-loop μ-loop
-loop-less c = search needs
 
 loop-again : tie.Need-loop-again Inv-loop μ-loop
 loop-again c =
@@ -78,11 +63,11 @@ attributes-zero-spec =
     Inv-loop
     μ-loop
     loop-holds
-    sub-i
-    cast-of-object
-    add-of-object
-    of-object-requires
+    (λ c. search needs)
+    (λ c. search needs)
+    (λ c. search needs)
+    (λ c κs. search needs)
     returns
-    loop-less
+    (λ c. search needs)
     loop-again
     returns-2)

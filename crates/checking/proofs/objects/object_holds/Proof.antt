@@ -35,18 +35,6 @@ attributes-told c s m b d e =
     c .attributes-zero .ensures
     ∙ ap (λ n. zeroFrom mostAttributes n (λ i. ofObject (now (a .cells)) (a .o .0) (attribute i))) (ap (λ (x : Row). x .0) (c .before .row .ensures) ∙ class-at s _ m b _ d e .attrs)
 
-class-of-requires : tie.Need-class-of-requires
-class-of-requires c κs = search needs
-
-enum-told : tie.Need-enum-told
-enum-told c = search needs
-
-enum-known-k : tie.Need-enum-known-k
-enum-known-k c = search needs
-
-cast-row : tie.Need-cast-row
-cast-row c = search needs
-
 row-requires : tie.Need-row-requires
 row-requires c κs =
     let t = c .before .before .before .before .before .pre in
@@ -56,9 +44,6 @@ attributes-zero-requires : tie.Need-attributes-zero-requires
 attributes-zero-requires c κs =
     let t = c .before .before .before .before .before .before .pre in
     omega (arith, ap (λ (x : Row). x .0) (c .row .ensures), attributes-few _ t _ _ (said (c .before .before) (t .text) (t .model) (t .rows)))
-
-running-named-requires : tie.Need-running-named-requires
-running-named-requires c κs = search needs
 
 returns : tie.Need-returns
 returns c s m b = object-classless m _ _ (classless m _ _ (subst (ClassSaid m _) (c .enum-told .given .1) (c .before .before .class-of .ensures s m b)))
@@ -82,13 +67,13 @@ pub object-holds-spec : {M : Type 1} → statement M
 object-holds-spec =
     tie.close
     (tie.spec
-    class-of-requires
-    enum-told
-    enum-known-k
-    cast-row
+    (λ c κs. search needs)
+    (λ c. search needs)
+    (λ c. search needs)
+    (λ c. search needs)
     row-requires
     attributes-zero-requires
-    running-named-requires
+    (λ c κs. search needs)
     returns
     returns-2
     returns-3)

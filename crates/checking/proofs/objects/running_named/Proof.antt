@@ -44,36 +44,9 @@ not-zero : (c : tie.After-label-of)
     is (ofObject (now (a .cells)) (a .o .0) runningLabel) 0 ≡ false
 not-zero c = sym (zero-told (c .before .before)) ∙ c .before .if1 .left
 
-of-object-requires : tie.Need-of-object-requires
-of-object-requires c κs = search needs
-
-is-number-requires : tie.Need-is-number-requires
-is-number-requires c κs = search needs
-
 returns : tie.Need-returns
 unfolding runningNamed
 returns c m = one _ _ (sym (zero-told (c .before)) ∙ c .if1 .taken)
-
-label-of-requires : tie.Need-label-of-requires
-label-of-requires c κs = search needs
-
-enum-told : tie.Need-enum-told
-enum-told c = search needs
-
-enum-known-l : tie.Need-enum-known-l
-enum-known-l c = search needs
-
-in-stage-requires : tie.Need-in-stage-requires
-in-stage-requires c κs = search needs
-
-of-call-requires : tie.Need-of-call-requires
-of-call-requires c κs = search needs
-
-cast-is-number : tie.Need-cast-is-number
-cast-is-number c = search needs
-
-is-number-requires-2 : tie.Need-is-number-requires-2
-is-number-requires-2 c κs = search needs
 
 returns-2 : tie.Need-returns-2
 returns-2 c m = unnamed m _ _ (not-zero (c .before .before)) (label-none _ (sym (label-told (c .before .before)) ∙ c .enum-told .given .1))
@@ -95,16 +68,16 @@ pub running-named-spec : {M : Type 1} → statement M
 running-named-spec =
     tie.close
     (tie.spec
-    of-object-requires
-    is-number-requires
+    (λ c κs. search needs)
+    (λ c κs. search needs)
     returns
-    label-of-requires
-    enum-told
-    enum-known-l
-    in-stage-requires
-    of-call-requires
-    cast-is-number
-    is-number-requires-2
+    (λ c κs. search needs)
+    (λ c. search needs)
+    (λ c. search needs)
+    (λ c κs. search needs)
+    (λ c κs. search needs)
+    (λ c. search needs)
+    (λ c κs. search needs)
     returns-2
     returns-3
     returns-4)

@@ -11,36 +11,6 @@ use Rattle.code.proofs.Shapes.{of-each}
 use Rattle.code.proofs.blocks.through.Statement.{statement}
 use Rattle.code.proofs.blocks.through.Tie as tie
 
-enum-told : tie.Need-enum-told
-enum-told c = search needs
-
-opened-requires : tie.Need-opened-requires
-opened-requires c κs = search needs
-
-enum-told-2 : tie.Need-enum-told-2
-enum-told-2 c = search needs
-
-past-else-requires : tie.Need-past-else-requires
-past-else-requires c κs = search needs
-
-enum-told-3 : tie.Need-enum-told-3
-enum-told-3 c = search needs
-
-without-requires : tie.Need-without-requires
-without-requires c κs = search needs
-
-enum-told-4 : tie.Need-enum-told-4
-enum-told-4 c = search needs
-
-opened-requires-2 : tie.Need-opened-requires-2
-opened-requires-2 c κs = search needs
-
-enum-told-5 : tie.Need-enum-told-5
-enum-told-5 c = search needs
-
-without-requires-2 : tie.Need-without-requires-2
-without-requires-2 c κs = search needs
-
 returns : tie.Need-returns
 unfolding shapeAt blockDigit rank
 returns c = λ bs f.
@@ -85,16 +55,16 @@ pub through-spec : {M : Type 1} → statement M
 through-spec =
     tie.close
     (tie.spec
-    enum-told
-    opened-requires
-    enum-told-2
-    past-else-requires
-    enum-told-3
-    without-requires
-    enum-told-4
-    opened-requires-2
-    enum-told-5
-    without-requires-2
+    (λ c. search needs)
+    (λ c κs. search needs)
+    (λ c. search needs)
+    (λ c κs. search needs)
+    (λ c. search needs)
+    (λ c κs. search needs)
+    (λ c. search needs)
+    (λ c κs. search needs)
+    (λ c. search needs)
+    (λ c κs. search needs)
     returns
     returns-2
     returns-3

@@ -32,9 +32,6 @@ of-other (Said.While a) n h = refl
 of-other Said.Od n h = refl
 of-other (Said.Return a) n h = refl
 
-enum-known-statement : tie.Need-enum-known-statement
-enum-known-statement c = search needs
-
 returns : tie.Need-returns
 unfolding asNew newSaid
 returns c = sym (ap (λ st. asNew (newSaid st (c .before .before .before .args .count))) (c .before .statement .given .1))
@@ -43,4 +40,4 @@ returns-2 : tie.Need-returns-2
 returns-2 c = of-other _ _ (c .match .keys2)
 
 pub new-of-spec : {M : Type 1} → statement M
-new-of-spec = tie.close (tie.spec enum-known-statement returns returns-2)
+new-of-spec = tie.close (tie.spec (λ c. search needs) returns returns-2)

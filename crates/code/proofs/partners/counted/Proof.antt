@@ -14,15 +14,9 @@ returns-2 : tie.Need-returns-2
 unfolding asNatural
 returns-2 c = sym (ap asNatural (counted-across _ _ _ (c .before .before .if1 .taken) (c .if3 .taken) (c .before .if2 .left)))
 
-sub-t6 : tie.Need-sub-t6
-sub-t6 c = search needs
-
 returns-3 : tie.Need-returns-3
 unfolding asNatural
 returns-3 c = sym (ap asNatural (counted-down _ _ _ (c .before .before .if1 .taken) (c .if3 .left) (c .before .if2 .left)))
-
-add-t7 : tie.Need-add-t7
-add-t7 c = search needs
 
 returns-4 : tie.Need-returns-4
 unfolding asNatural
@@ -33,4 +27,4 @@ unfolding asNatural
 returns-5 c = sym (ap asNatural (counted-level _ _ _ (c .before .if1 .left) (c .if4 .left)))
 
 pub counted-spec : {M : Type 1} → statement M
-counted-spec = tie.close (tie.spec returns returns-2 sub-t6 returns-3 add-t7 returns-4 returns-5)
+counted-spec = tie.close (tie.spec returns returns-2 (λ c. search needs) returns-3 (λ c. search needs) returns-4 returns-5)

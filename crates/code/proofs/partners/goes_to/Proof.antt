@@ -13,12 +13,6 @@ use borrow.Author.Needs.{needs}
 use Rattle.code.proofs.partners.goes_to.Statement.{statement}
 use Rattle.code.proofs.partners.goes_to.Tie as tie
 
-shared-slice-read-shape-at : tie.Need-shared-slice-read-shape-at
-shared-slice-read-shape-at c = search needs
-
-shape-at-requires : tie.Need-shape-at-requires
-shape-at-requires c κs = search needs
-
 past-partner-requires : tie.Need-past-partner-requires
 unfolding shapeAt present opening
 past-partner-requires c κs =
@@ -26,21 +20,12 @@ past-partner-requires c κs =
     let sh = c .before .shape-at in
     (s .pre .0, (s .pre .1, ap (λ t. present (opening t)) (sym (sh .ensures)) ∙ of-each (λ t. present (opening t) ≡ true) (sh .result) (0 ∷ 1 ∷ 3 ∷ []) (refl, (refl, (refl, tt))) (c .match .keys1)))
 
-enum-told : tie.Need-enum-told
-enum-told c = search needs
-
 partner-before-requires : tie.Need-partner-before-requires
 unfolding shapeAt present closing
 partner-before-requires c κs =
     let s = c .before .before .before .before .before in
     let sh = c .before .before .shape-at in
     (s .pre .0, (s .pre .1, ap (λ t. present (closing t)) (sym (sh .ensures)) ∙ of-each (λ t. present (closing t) ≡ true) (sh .result) (4 ∷ []) (refl, tt) (c .before .match .keys2)))
-
-enum-told-2 : tie.Need-enum-told-2
-enum-told-2 c = search needs
-
-add-result : tie.Need-add-result
-add-result c = search needs
 
 returns : tie.Need-returns
 unfolding shapeAt goesFrom
@@ -82,13 +67,13 @@ pub goes-to-spec : {M : Type 1} → statement M
 goes-to-spec =
     tie.close
     (tie.spec
-    shared-slice-read-shape-at
-    shape-at-requires
+    (λ c. search needs)
+    (λ c κs. search needs)
     past-partner-requires
-    enum-told
+    (λ c. search needs)
     partner-before-requires
-    enum-told-2
-    add-result
+    (λ c. search needs)
+    (λ c. search needs)
     returns
     returns-2
     returns-3

@@ -6,22 +6,10 @@ use borrow.Author.Needs.{needs}
 use Rattle.code.proofs.partners.onward.Statement.{statement}
 use Rattle.code.proofs.partners.onward.Tie as tie
 
-shape-at-requires : tie.Need-shape-at-requires
-shape-at-requires c κs = search needs
-
-closes-requires : tie.Need-closes-requires
-closes-requires c κs = search needs
-
-opens-requires : tie.Need-opens-requires
-opens-requires c κs = search needs
-
-counted-requires : tie.Need-counted-requires
-counted-requires c κs = search needs
-
 returns : tie.Need-returns
 returns c =
     c .counted .ensures ∙ ap asNatural (counted-onward _ _ _ _ _ (c .before .before .before .shape-at .ensures) (c .before .before .closes .ensures) (c .before .opens .ensures))
 
 pub onward-spec : {M : Type 1} → statement M
 onward-spec =
-    tie.close (tie.spec shape-at-requires closes-requires opens-requires counted-requires returns)
+    tie.close (tie.spec (λ c κs. search needs) (λ c κs. search needs) (λ c κs. search needs) (λ c κs. search needs) returns)

@@ -20,30 +20,12 @@ loop-holds c =
     let s = c .before in
     (omega arith, omega arith, begins-backward (s .args .lines .now) (s .args .i) (s .pre .0) (s .pre .1 .0) (s .pre .1 .1))
 
-sub-j : tie.Need-sub-j Inv-loop μ-loop
-sub-j c = omega arith
-
-shared-slice-read-backward : tie.Need-shared-slice-read-backward Inv-loop μ-loop
-shared-slice-read-backward c = omega arith
-
-backward-requires : tie.Need-backward-requires Inv-loop μ-loop
-backward-requires c κs = omega arith
-
-enum-told : tie.Need-enum-told Inv-loop μ-loop
-enum-told c = search needs
-
 returns : tie.Need-returns Inv-loop μ-loop
 returns c =
     let l = c .before .before .before .before .before .loop in
     let s = c .before .before .before .before .before .before .before in
     sym (met-backward (s .args .lines .now) (s .args .i) (l .j) (l .closed) (l .inv .2) (c .before .before .before .before .loop-test .taken) (l .inv .0) (s .pre .0)
     (sym (c .before .before .backward .ensures) ∙ c .enum-told .given .1))
-
-enum-known-n : tie.Need-enum-known-n Inv-loop μ-loop
-enum-known-n c = search needs
-
-loop-less : tie.Need-loop-less Inv-loop μ-loop
-loop-less c = omega arith
 
 loop-again : tie.Need-loop-again Inv-loop μ-loop
 loop-again c =
@@ -66,12 +48,12 @@ partner-before-spec =
     Inv-loop
     μ-loop
     loop-holds
-    sub-j
-    shared-slice-read-backward
-    backward-requires
-    enum-told
+    (λ c. omega arith)
+    (λ c. omega arith)
+    (λ c κs. omega arith)
+    (λ c. search needs)
     returns
-    enum-known-n
-    loop-less
+    (λ c. search needs)
+    (λ c. omega arith)
     loop-again
     returns-2)

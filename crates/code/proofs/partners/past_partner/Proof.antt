@@ -16,25 +16,10 @@ Inv-loop lines i opened₀ j₀ opened j = (i < j) × (j ≤ length lines) × (o
 abbrev μ-loop : tie.MeasureT-loop
 μ-loop lines i opened₀ j₀ opened j = length lines - j
 
-add-j : tie.Need-add-j Inv-loop μ-loop
-add-j c = omega arith
-
 loop-holds : tie.Need-loop-holds Inv-loop μ-loop
 loop-holds c =
     let s = c .before in
     (omega arith, omega arith, omega arith, begins-onward (s .args .lines .now) (s .args .i) (s .pre .0) (s .pre .1 .0) (s .pre .1 .1))
-
-shared-slice-read-onward : tie.Need-shared-slice-read-onward Inv-loop μ-loop
-shared-slice-read-onward c = omega arith
-
-onward-requires : tie.Need-onward-requires Inv-loop μ-loop
-onward-requires c κs = omega arith
-
-enum-told : tie.Need-enum-told Inv-loop μ-loop
-enum-told c = search needs
-
-add-result : tie.Need-add-result Inv-loop μ-loop
-add-result c = omega arith
 
 returns : tie.Need-returns Inv-loop μ-loop
 returns c =
@@ -42,15 +27,6 @@ returns c =
     let s = c .before .before .before .before .before .before .before in
     sym (ap (_+ 1) (met-onward (s .args .lines .now) (s .args .i) (l .j) (l .opened) (l .inv .3) (c .before .before .before .before .loop-test .taken)
     (sym (c .before .before .onward .ensures) ∙ c .enum-told .given .1)))
-
-enum-known-n : tie.Need-enum-known-n Inv-loop μ-loop
-enum-known-n c = search needs
-
-add-j-2 : tie.Need-add-j-2 Inv-loop μ-loop
-add-j-2 c = omega arith
-
-loop-less : tie.Need-loop-less Inv-loop μ-loop
-loop-less c = omega arith
 
 loop-again : tie.Need-loop-again Inv-loop μ-loop
 loop-again c =
@@ -72,15 +48,15 @@ past-partner-spec =
     (tie.spec
     Inv-loop
     μ-loop
-    add-j
+    (λ c. omega arith)
     loop-holds
-    shared-slice-read-onward
-    onward-requires
-    enum-told
-    add-result
+    (λ c. omega arith)
+    (λ c κs. omega arith)
+    (λ c. search needs)
+    (λ c. omega arith)
     returns
-    enum-known-n
-    add-j-2
-    loop-less
+    (λ c. search needs)
+    (λ c. omega arith)
+    (λ c. omega arith)
     loop-again
     returns-2)

@@ -8,15 +8,6 @@ use Rattle.entries.proofs.Searching.{all-numbers}
 use Rattle.entries.proofs.driving.drive.Statement.{statement}
 use Rattle.entries.proofs.driving.drive.Tie as tie
 
-slice-aggregate-drive-in : tie.Need-slice-aggregate-drive-in
-slice-aggregate-drive-in c = search needs
-
-drive-in-requires : tie.Need-drive-in-requires
-drive-in-requires c κs = search needs
-
-same-length : tie.Need-same-length
-same-length c = search needs
-
 returns : tie.Need-returns
 returns c =
     let a = c .before .before .before .before .before .args in
@@ -26,7 +17,7 @@ pub drive-spec : {M : Type 1} → statement M
 drive-spec =
     tie.close
     (tie.spec
-    slice-aggregate-drive-in
-    drive-in-requires
-    same-length
+    (λ c. search needs)
+    (λ c κs. search needs)
+    (λ c. search needs)
     returns)

@@ -46,9 +46,6 @@ searched c =
 loop-holds : tie.Need-loop-holds Inv-loop μ-loop
 loop-holds c = (omega arith, refl, refl)
 
-shared-slice-read-kind : tie.Need-shared-slice-read-kind Inv-loop μ-loop
-shared-slice-read-kind c = search needs
-
 in-use-requires : tie.Need-in-use-requires Inv-loop μ-loop
 in-use-requires c κs =
     let h = kept (c .before .before .before) in
@@ -59,20 +56,11 @@ first-of-requires c κs =
     let l = c .before .before .before .before .before in
     (l .before .before .before .before .before .pre .0, (kept l, c .before .in-use .ensures .1))
 
-same-length : tie.Need-same-length Inv-loop μ-loop
-same-length c = search needs
-
 returns : tie.Need-returns Inv-loop μ-loop
 returns c =
     let l = c .before .before .before .before .before .before .before .before in
     let a = l .before .before .before .before .before .args in
     in-found (modelOf (now (a .text))) (now (a .cells)) (now (a .order)) (l .loop .i) (l .loop .inv .2) (omega arith) _ (counted (c .before .before)) _ _ (searched (c .before .before)) (c .if1 .taken)
-
-add-i : tie.Need-add-i Inv-loop μ-loop
-add-i c = search needs
-
-loop-less : tie.Need-loop-less Inv-loop μ-loop
-loop-less c = search needs
 
 loop-again : tie.Need-loop-again Inv-loop μ-loop
 loop-again c =
@@ -97,13 +85,13 @@ first-in-spec =
     Inv-loop
     μ-loop
     loop-holds
-    shared-slice-read-kind
+    (λ c. search needs)
     in-use-requires
     first-of-requires
-    same-length
+    (λ c. search needs)
     returns
-    add-i
-    loop-less
+    (λ c. search needs)
+    (λ c. search needs)
     loop-again
     same-length-2
     returns-2)

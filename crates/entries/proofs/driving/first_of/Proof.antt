@@ -55,20 +55,11 @@ next-requires c κs =
     let p = c .before .before .before .before .before .before .pre in
     (p .0, ap (isConfiguration _) (c .before .before .loop .inv .1) ∙ p .1 .0)
 
-same-length : tie.Need-same-length Inv-loop μ-loop
-same-length c = search needs
-
 returns : tie.Need-returns Inv-loop μ-loop
 returns c =
     let l = c .before .before .before .before .before in
     let a = l .before .before .before .before .args in
     of-moved (modelOf (now (a .text))) (now (a .cells)) (a .kind) (a .count) (l .loop .n) (l .loop .inv .2) (omega arith) _ _ (performed (c .before .before)) (c .if1 .taken)
-
-add-n : tie.Need-add-n Inv-loop μ-loop
-add-n c = search needs
-
-loop-less : tie.Need-loop-less Inv-loop μ-loop
-loop-less c = search needs
 
 loop-again : tie.Need-loop-again Inv-loop μ-loop
 loop-again c =
@@ -96,10 +87,10 @@ first-of-spec =
     cast-t10
     cast-t11
     next-requires
-    same-length
+    (λ c. search needs)
     returns
-    add-n
-    loop-less
+    (λ c. search needs)
+    (λ c. search needs)
     loop-again
     same-length-2
     returns-2)

@@ -10,17 +10,8 @@ use Rattle.entries.proofs.Searching.{all-there, all-numbers, quiet-led}
 use Rattle.entries.proofs.driving.is_quiet.Statement.{statement}
 use Rattle.entries.proofs.driving.is_quiet.Tie as tie
 
-slice-aggregate-copied : tie.Need-slice-aggregate-copied
-slice-aggregate-copied c = search needs
-
 copied-requires : tie.Need-copied-requires
 copied-requires c κs = sym (all-there _ _ (c .before .before .before .before .pre .1))
-
-slice-aggregate-first-in : tie.Need-slice-aggregate-first-in
-slice-aggregate-first-in c = search needs
-
-slice-aggregate-first-in-2 : tie.Need-slice-aggregate-first-in-2
-slice-aggregate-first-in-2 c = search needs
 
 first-in-requires : tie.Need-first-in-requires
 first-in-requires c κs =
@@ -38,9 +29,9 @@ pub is-quiet-spec : {M : Type 1} → statement M
 is-quiet-spec =
     tie.close
     (tie.spec
-    slice-aggregate-copied
+    (λ c. search needs)
     copied-requires
-    slice-aggregate-first-in
-    slice-aggregate-first-in-2
+    (λ c. search needs)
+    (λ c. search needs)
     first-in-requires
     returns)

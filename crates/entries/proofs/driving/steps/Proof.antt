@@ -35,9 +35,6 @@ loop-holds c =
 first-in-requires : tie.Need-first-in-requires Inv-loop μ-loop
 first-in-requires c κs = let l = c .before .before in (l .before .before .before .before .before .pre .0, l .loop .inv .2)
 
-same-length : tie.Need-same-length Inv-loop μ-loop
-same-length c = search needs
-
 returns : tie.Need-returns Inv-loop μ-loop
 returns c =
     let l = c .before .before .before .before .before in
@@ -46,12 +43,6 @@ returns c =
     let p = led-false (firstAccepted m (l .loop .cells) (choicesIn (kindsOf (now (a .order))) (l .loop .cells))) (l .loop .cells) _ _ (c .before .before .first-in .ensures) (not-true _ (c .if1 .taken)) in
     let s = steps-end m (kindsOf (now (a .order))) (a .budget) (l .loop .taken) (l .loop .cells) _ (l .loop .inv .3) (p .0) in
     (s .0, (p .1 ∙ s .1, ap (isConfiguration m) (p .1) ∙ l .loop .inv .2))
-
-add-taken : tie.Need-add-taken Inv-loop μ-loop
-add-taken c = search needs
-
-loop-less : tie.Need-loop-less Inv-loop μ-loop
-loop-less c = search needs
 
 loop-again : tie.Need-loop-again Inv-loop μ-loop
 loop-again c =
@@ -86,10 +77,10 @@ steps-spec =
     μ-loop
     loop-holds
     first-in-requires
-    same-length
+    (λ c. search needs)
     returns
-    add-taken
-    loop-less
+    (λ c. search needs)
+    (λ c. search needs)
     loop-again
     same-length-2
     returns-2)

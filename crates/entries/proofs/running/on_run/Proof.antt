@@ -6,32 +6,11 @@ use Rattle.entries.proofs.RunOutcomes.{before-lengths, lengths-differ, 
 use Rattle.entries.proofs.running.on_run.Statement.{statement}
 use Rattle.entries.proofs.running.on_run.Tie as tie
 
-on-configuration-requires : tie.Need-on-configuration-requires
-on-configuration-requires c κs = search needs
-
-same-length : tie.Need-same-length
-same-length c = search needs
-
-same-length-2 : tie.Need-same-length-2
-same-length-2 c = search needs
-
 returns : tie.Need-returns
 returns c = before-lengths _ _ _ _ _ _ _ (c .before .before .before .before .before .before .on-configuration .ensures) (c .if1 .taken)
 
-same-length-3 : tie.Need-same-length-3
-same-length-3 c = search needs
-
-same-length-4 : tie.Need-same-length-4
-same-length-4 c = search needs
-
 returns-2 : tie.Need-returns-2
 returns-2 c = lengths-same _ _ _ _ _ _ _ (c .before .before .before .before .before .before .before .on-configuration .ensures) (c .before .if1 .left) (c .if2 .taken)
-
-same-length-5 : tie.Need-same-length-5
-same-length-5 c = search needs
-
-same-length-6 : tie.Need-same-length-6
-same-length-6 c = search needs
 
 returns-3 : tie.Need-returns-3
 unfolding atNoLine
@@ -41,13 +20,13 @@ pub on-run-spec : {M : Type 1} → statement M
 on-run-spec =
     tie.close
     (tie.spec
-    on-configuration-requires
-    same-length
-    same-length-2
+    (λ c κs. search needs)
+    (λ c. search needs)
+    (λ c. search needs)
     returns
-    same-length-3
-    same-length-4
+    (λ c. search needs)
+    (λ c. search needs)
     returns-2
-    same-length-5
-    same-length-6
+    (λ c. search needs)
+    (λ c. search needs)
     returns-3)

@@ -13,27 +13,12 @@ use Rattle.entries.proofs.Refusing.{answer-small}
 use Rattle.entries.proofs.running.perform.Statement.{statement}
 use Rattle.entries.proofs.running.perform.Tie as tie
 
-next-requires : tie.Need-next-requires
-next-requires c κs = search needs
-
 -- the answer to a choice is small
 small : (c : tie.After-next) → c .next .result ≤ 33
 small c = subst (_≤ 33) (sym (c .next .ensures .0)) (answer-small _ _ _)
 
 cast-answers : tie.Need-cast-answers
 cast-answers c = record { sfits = omega (arith, small (c .before)) }
-
-mul-t12 : tie.Need-mul-t12
-mul-t12 c = search needs
-
-slice-set-from-answers : tie.Need-slice-set-from-answers
-slice-set-from-answers c = search needs
-
-same-length : tie.Need-same-length
-same-length c = search needs
-
-same-length-2 : tie.Need-same-length-2
-same-length-2 c = search needs
 
 returns : tie.Need-returns
 returns c =
@@ -45,10 +30,10 @@ pub perform-spec : {M : Type 1} → statement M
 perform-spec =
     tie.close
     (tie.spec
-    next-requires
+    (λ c κs. search needs)
     cast-answers
-    mul-t12
-    slice-set-from-answers
-    same-length
-    same-length-2
+    (λ c. search needs)
+    (λ c. search needs)
+    (λ c. search needs)
+    (λ c. search needs)
     returns)

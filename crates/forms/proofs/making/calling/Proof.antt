@@ -11,23 +11,8 @@ use Rattle.forms.proofs.Written.{worked-out, did-not-fit}
 use Rattle.forms.proofs.making.calling.Statement.{statement}
 use Rattle.forms.proofs.making.calling.Tie as tie
 
-enum-told : tie.Need-enum-told
-enum-told c = search needs
-
-enum-known-callee : tie.Need-enum-known-callee
-enum-known-callee c = search needs
-
-cast-issued : tie.Need-cast-issued
-cast-issued c = search needs
-
-issued-requires : tie.Need-issued-requires
-issued-requires c κs = search needs
-
 returns : tie.Need-returns
 returns c m st ws at is = did-not-fit _ _ _ (c .enum-told .given .1)
-
-same-length : tie.Need-same-length
-same-length c = search needs
 
 returns-2 : tie.Need-returns-2
 returns-2 c m st ws at is =
@@ -48,11 +33,11 @@ pub calling-spec : {M : Type 1} → statement M
 calling-spec =
     tie.close
     (tie.spec
-    enum-told
-    enum-known-callee
-    cast-issued
-    issued-requires
+    (λ c. search needs)
+    (λ c. search needs)
+    (λ c. search needs)
+    (λ c κs. search needs)
     returns
-    same-length
+    (λ c. search needs)
     returns-2
     returns-3)

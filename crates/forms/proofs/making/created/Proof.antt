@@ -45,27 +45,9 @@ made-there c m st zs runs v =
     (ap (λ b. whenever b (rowLeft cells)) no, idle-made m cells _ _ st (a .class) zs _ no (w .5 ∙ w .3 .ensures zs v)))
     (c .if2 .came)
 
-objects-in-use-requires : tie.Need-objects-in-use-requires
-objects-in-use-requires c κs = search needs
-
-cast-if1 : tie.Need-cast-if1
-cast-if1 c = search needs
-
-same-length : tie.Need-same-length
-same-length c = search needs
-
 returns : tie.Need-returns
 returns c m st zs at runs v =
     refused-done _ _ _ (no-object-row m _ _ _ st _ zs _ (omega (arith, c .if1 .taken, c .before .objects-in-use .ensures)))
-
-rows-in-use-requires : tie.Need-rows-in-use-requires
-rows-in-use-requires c κs = search needs
-
-cast-if3 : tie.Need-cast-if3
-cast-if3 c = search needs
-
-same-length-2 : tie.Need-same-length-2
-same-length-2 c = search needs
 
 returns-2 : tie.Need-returns-2
 returns-2 c m st zs at runs v =
@@ -73,26 +55,8 @@ returns-2 c m st zs at runs v =
     (no-call-row m _ _ _ st _ zs _ (room (c .before .before .before .before)) (runs ∙ c .before .before .before .if2 .taken)
     (omega (arith, c .if3 .taken, c .before .rows-in-use .ensures)))
 
-slice-aggregate-with-running : tie.Need-slice-aggregate-with-running
-slice-aggregate-with-running c = search needs
-
-with-running-requires : tie.Need-with-running-requires
-with-running-requires c κs = search needs
-
-slice-aggregate-with-object : tie.Need-slice-aggregate-with-object
-slice-aggregate-with-object c = search needs
-
-with-object-requires : tie.Need-with-object-requires
-with-object-requires c κs = search needs
-
-cast-assigned : tie.Need-cast-assigned
-cast-assigned c = search needs
-
 add-assigned : tie.Need-add-assigned
 add-assigned c = number-fits _ (few (c .before .before))
-
-assigned-requires : tie.Need-assigned-requires
-assigned-requires c κs = search needs
 
 same-length-3 : tie.Need-same-length-3
 same-length-3 c =
@@ -108,20 +72,20 @@ pub created-spec : {M : Type 1} → statement M
 created-spec =
     tie.close
     (tie.spec
-    objects-in-use-requires
-    cast-if1
-    same-length
+    (λ c κs. search needs)
+    (λ c. search needs)
+    (λ c. search needs)
     returns
-    rows-in-use-requires
-    cast-if3
-    same-length-2
+    (λ c κs. search needs)
+    (λ c. search needs)
+    (λ c. search needs)
     returns-2
-    slice-aggregate-with-running
-    with-running-requires
-    slice-aggregate-with-object
-    with-object-requires
-    cast-assigned
+    (λ c. search needs)
+    (λ c κs. search needs)
+    (λ c. search needs)
+    (λ c κs. search needs)
+    (λ c. search needs)
     add-assigned
-    assigned-requires
+    (λ c κs. search needs)
     same-length-3
     returns-3)

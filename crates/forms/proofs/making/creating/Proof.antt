@@ -5,12 +5,6 @@ use Rattle.forms.proofs.MakingLaws.{refused-done, same-done}
 use Rattle.forms.proofs.making.creating.Statement.{statement}
 use Rattle.forms.proofs.making.creating.Tie as tie
 
-created-requires : tie.Need-created-requires
-created-requires c κs = search needs
-
-same-length : tie.Need-same-length
-same-length c = search needs
-
 returns : tie.Need-returns
 returns c m st ws at runs is =
     let g = gathered-fit ws _ is (c .before .before .before .before .if1 .taken) in
@@ -20,4 +14,4 @@ returns-2 : tie.Need-returns-2
 returns-2 c m st ws at runs is = refused-done _ _ _ (gathered-unfit ws _ is (c .if1 .left) _)
 
 pub creating-spec : {M : Type 1} → statement M
-creating-spec = tie.close (tie.spec created-requires same-length returns returns-2)
+creating-spec = tie.close (tie.spec (λ c κs. search needs) (λ c. search needs) returns returns-2)

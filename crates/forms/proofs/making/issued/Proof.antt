@@ -27,52 +27,16 @@ callee c = object-some _ _ (told (c .before .before) ∙ c .to .given .1)
 few : (c : tie.Else1) → c .before .rows-in-use .result < 256
 few c = omega (arith, c .if1 .left)
 
-object-of-requires : tie.Need-object-of-requires
-object-of-requires c κs = search needs
-
-enum-told : tie.Need-enum-told
-enum-told c = search needs
-
-enum-known-to : tie.Need-enum-known-to
-enum-known-to c = search needs
-
-rows-in-use-requires : tie.Need-rows-in-use-requires
-rows-in-use-requires c κs = search needs
-
-cast-if1 : tie.Need-cast-if1
-cast-if1 c = search needs
-
-same-length : tie.Need-same-length
-same-length c = search needs
-
 returns : tie.Need-returns
 returns c m st zs at v n =
     refused-done _ _ _ (no-row m _ _ _ st _ _ _ zs _ (callee (c .before .before .before .before)) (omega (arith, c .if1 .taken, c .before .rows-in-use .ensures)))
 
-slice-aggregate-with-call : tie.Need-slice-aggregate-with-call
-slice-aggregate-with-call c = search needs
-
-with-call-requires : tie.Need-with-call-requires
-with-call-requires c κs = search needs
-
-cast-assigned : tie.Need-cast-assigned
-cast-assigned c = search needs
-
 add-assigned : tie.Need-add-assigned
 add-assigned c = number-fits _ (few (c .before .before .before .before .before))
-
-assigned-requires : tie.Need-assigned-requires
-assigned-requires c κs = search needs
-
-same-length-2 : tie.Need-same-length-2
-same-length-2 c = search needs
 
 returns-2 : tie.Need-returns-2
 returns-2 c m st zs at v n =
     refused-done _ _ _ (no-callee m _ _ _ st _ _ _ zs (object-none _ (told (c .before .before) ∙ c .enum-told .given .1)))
-
-same-length-3 : tie.Need-same-length-3
-same-length-3 c = search needs
 
 returns-3 : tie.Need-returns-3
 returns-3 c m st zs at v n =
@@ -84,19 +48,19 @@ pub issued-spec : {M : Type 1} → statement M
 issued-spec =
     tie.close
     (tie.spec
-    object-of-requires
-    enum-told
-    enum-known-to
-    rows-in-use-requires
-    cast-if1
-    same-length
+    (λ c κs. search needs)
+    (λ c. search needs)
+    (λ c. search needs)
+    (λ c κs. search needs)
+    (λ c. search needs)
+    (λ c. search needs)
     returns
-    slice-aggregate-with-call
-    with-call-requires
-    cast-assigned
+    (λ c. search needs)
+    (λ c κs. search needs)
+    (λ c. search needs)
     add-assigned
-    assigned-requires
-    same-length-2
+    (λ c κs. search needs)
+    (λ c. search needs)
     returns-2
-    same-length-3
+    (λ c. search needs)
     returns-3)

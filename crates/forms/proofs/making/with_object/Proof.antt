@@ -7,24 +7,6 @@ use Rattle.forms.proofs.MakingLaws.{object-added}
 use Rattle.forms.proofs.making.with_object.Statement.{statement}
 use Rattle.forms.proofs.making.with_object.Tie as tie
 
-objects-in-use-requires : tie.Need-objects-in-use-requires
-objects-in-use-requires c κs = search needs
-
-cast-next : tie.Need-cast-next
-cast-next c = search needs
-
-add-next : tie.Need-add-next
-add-next c = search needs
-
-to-objects-requires : tie.Need-to-objects-requires
-to-objects-requires c κs = search needs
-
-new-object-requires : tie.Need-new-object-requires
-new-object-requires c κs = search needs
-
-same-length : tie.Need-same-length
-same-length c = search needs
-
 returns : tie.Need-returns
 returns c zs v =
     let a = c .before .before .before .before .before .before .before .before .args in
@@ -35,10 +17,10 @@ pub with-object-spec : {M : Type 1} → statement M
 with-object-spec =
     tie.close
     (tie.spec
-    objects-in-use-requires
-    cast-next
-    add-next
-    to-objects-requires
-    new-object-requires
-    same-length
+    (λ c κs. search needs)
+    (λ c. search needs)
+    (λ c. search needs)
+    (λ c κs. search needs)
+    (λ c κs. search needs)
+    (λ c. search needs)
     returns)

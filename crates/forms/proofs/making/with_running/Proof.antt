@@ -21,37 +21,10 @@ kept c =
     ap rowsInUse (c .with-object .ensures attributes (padded-whole _ attributes (s .pre .1 .1 .1)))
     ∙ rows-kept (now (a .cells)) (a .class) _ attributes (s .pre .1 .1 .0) (s .pre .0)
 
-objects-in-use-requires : tie.Need-objects-in-use-requires
-objects-in-use-requires c κs = search needs
-
-cast-object : tie.Need-cast-object
-cast-object c = search needs
-
-add-object : tie.Need-add-object
-add-object c = search needs
-
-rows-in-use-requires : tie.Need-rows-in-use-requires
-rows-in-use-requires c κs = search needs
-
-cast-label : tie.Need-cast-label
-cast-label c = search needs
-
-add-label : tie.Need-add-label
-add-label c = search needs
-
-with-object-requires : tie.Need-with-object-requires
-with-object-requires c κs = search needs
-
-slice-aggregate-with-call : tie.Need-slice-aggregate-with-call
-slice-aggregate-with-call c = search needs
-
 with-call-requires : tie.Need-with-call-requires
 with-call-requires c κs =
     let pre = c .before .before .before .before .before .before .before .before .before .pre in
     (omega (arith, kept (c .before .before .before)), refl)
-
-same-length : tie.Need-same-length
-same-length c = search needs
 
 returns : tie.Need-returns
 unfolding nextObject nextRow padded
@@ -69,14 +42,14 @@ pub with-running-spec : {M : Type 1} → statement M
 with-running-spec =
     tie.close
     (tie.spec
-    objects-in-use-requires
-    cast-object
-    add-object
-    rows-in-use-requires
-    cast-label
-    add-label
-    with-object-requires
-    slice-aggregate-with-call
+    (λ c κs. search needs)
+    (λ c. search needs)
+    (λ c. search needs)
+    (λ c κs. search needs)
+    (λ c. search needs)
+    (λ c. search needs)
+    (λ c κs. search needs)
+    (λ c. search needs)
     with-call-requires
-    same-length
+    (λ c. search needs)
     returns)

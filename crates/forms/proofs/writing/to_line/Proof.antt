@@ -9,15 +9,6 @@ use Rattle.layout.specs.Layout.{written, toCall, line}
 use Rattle.forms.proofs.writing.to_line.Statement.{statement}
 use Rattle.forms.proofs.writing.to_line.Tie as tie
 
-cast-to-call : tie.Need-cast-to-call
-cast-to-call c = search needs
-
-to-call-requires : tie.Need-to-call-requires
-to-call-requires c κs = search needs
-
-same-length : tie.Need-same-length
-same-length c = search needs
-
 returns : tie.Need-returns
 returns c =
     let s = c .before .before .before in
@@ -26,4 +17,4 @@ returns c =
     ∙ ap (λ z. written cells (toCall cells (s .args .l .0) line z)) (toZ-pos w32 (s .args .line) (omega (arith, s .pre)))
 
 pub to-line-spec : {M : Type 1} → statement M
-to-line-spec = tie.close (tie.spec cast-to-call to-call-requires same-length returns)
+to-line-spec = tie.close (tie.spec (λ c. search needs) (λ c κs. search needs) (λ c. search needs) returns)

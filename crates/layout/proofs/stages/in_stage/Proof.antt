@@ -8,12 +8,6 @@ use Rattle.whole.specs.Whole.{eqZ}
 use Rattle.layout.proofs.stages.in_stage.Statement.{statement}
 use Rattle.layout.proofs.stages.in_stage.Tie as tie
 
-of-call-requires : tie.Need-of-call-requires
-of-call-requires c κs = search needs
-
-is-number-requires : tie.Need-is-number-requires
-is-number-requires c κs = search needs
-
 returns : tie.Need-returns
 unfolding inStage stageOf
 returns c =
@@ -21,4 +15,4 @@ returns c =
     ∙ ap (λ z. eqZ z (pos (c .before .before .args .stage))) (handed _ _ (c .before .of-call .ok) (c .before .of-call .ensures))
 
 pub in-stage-spec : {M : Type 1} → statement M
-in-stage-spec = tie.close (tie.spec of-call-requires is-number-requires returns)
+in-stage-spec = tie.close (tie.spec (λ c κs. search needs) (λ c κs. search needs) returns)

@@ -12,18 +12,6 @@ use Rattle.whole.specs.Whole.{between}
 use Rattle.layout.proofs.stages.in_stages.Statement.{statement}
 use Rattle.layout.proofs.stages.in_stages.Tie as tie
 
-cast-between : tie.Need-cast-between
-cast-between c = search needs
-
-cast-between-2 : tie.Need-cast-between-2
-cast-between-2 c = search needs
-
-of-call-requires : tie.Need-of-call-requires
-of-call-requires c κs = search needs
-
-between-requires : tie.Need-between-requires
-between-requires c κs = search needs
-
 returns : tie.Need-returns
 unfolding inStages stageOf
 returns c =
@@ -35,4 +23,4 @@ returns c =
     (toZ-pos w32 (s .args .last) (omega (arith, s .fits .last)))
 
 pub in-stages-spec : {M : Type 1} → statement M
-in-stages-spec = tie.close (tie.spec cast-between cast-between-2 of-call-requires between-requires returns)
+in-stages-spec = tie.close (tie.spec (λ c. search needs) (λ c. search needs) (λ c κs. search needs) (λ c κs. search needs) returns)

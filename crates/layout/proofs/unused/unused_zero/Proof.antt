@@ -18,36 +18,6 @@ objects-told c =
     let cells = now (c .before .before .args .cells) in
     c .zeros .ensures ∙ ap (λ n. zerosIn cells (firstObject + n * objectCells) firstCall) (c .before .objects-in-use .ensures)
 
-objects-in-use-requires : tie.Need-objects-in-use-requires
-objects-in-use-requires c κs = search needs
-
-cast-zeros : tie.Need-cast-zeros
-cast-zeros c = search needs
-
-mul-zeros : tie.Need-mul-zeros
-mul-zeros c = search needs
-
-add-zeros : tie.Need-add-zeros
-add-zeros c = search needs
-
-zeros-requires : tie.Need-zeros-requires
-zeros-requires c κs = search needs
-
-rows-in-use-requires : tie.Need-rows-in-use-requires
-rows-in-use-requires c κs = search needs
-
-cast-zeros-2 : tie.Need-cast-zeros-2
-cast-zeros-2 c = search needs
-
-mul-zeros-2 : tie.Need-mul-zeros-2
-mul-zeros-2 c = search needs
-
-add-zeros-2 : tie.Need-add-zeros-2
-add-zeros-2 c = search needs
-
-zeros-requires-2 : tie.Need-zeros-requires-2
-zeros-requires-2 c κs = search needs
-
 returns : tie.Need-returns
 returns c =
     let s = c .before .before .before .before .before in
@@ -65,15 +35,15 @@ pub unused-zero-spec : {M : Type 1} → statement M
 unused-zero-spec =
     tie.close
     (tie.spec
-    objects-in-use-requires
-    cast-zeros
-    mul-zeros
-    add-zeros
-    zeros-requires
-    rows-in-use-requires
-    cast-zeros-2
-    mul-zeros-2
-    add-zeros-2
-    zeros-requires-2
+    (λ c κs. search needs)
+    (λ c. search needs)
+    (λ c. search needs)
+    (λ c. search needs)
+    (λ c κs. search needs)
+    (λ c κs. search needs)
+    (λ c. search needs)
+    (λ c. search needs)
+    (λ c. search needs)
+    (λ c κs. search needs)
     returns
     returns-2)

@@ -23,33 +23,6 @@ call-row c r f zs = rowTo firstCall callRows callCells c r f zs
 small : (n : ℕ) → Fits w8 n → toZ w32 n ≡ pos n
 small n f = toZ-pos w32 n (omega (arith, f .fits))
 
-cast-t6 : tie.Need-cast-t6
-cast-t6 c = search needs
-
-cast-t7 : tie.Need-cast-t7
-cast-t7 c = search needs
-
-cast-t8 : tie.Need-cast-t8
-cast-t8 c = search needs
-
-cast-t9 : tie.Need-cast-t9
-cast-t9 c = search needs
-
-cast-t10 : tie.Need-cast-t10
-cast-t10 c = search needs
-
-slice-aggregate-to-row : tie.Need-slice-aggregate-to-row
-slice-aggregate-to-row c = search needs
-
-to-row-requires : tie.Need-to-row-requires
-to-row-requires c κs = search needs
-
-to-row-requires-2 : tie.Need-to-row-requires-2
-to-row-requires-2 c κs = search needs
-
-same-length : tie.Need-same-length
-same-length c = search needs
-
 returns : tie.Need-returns
 unfolding call-row placed fieldCell stands cellOf
 returns c =
@@ -69,13 +42,13 @@ pub new-call-spec : {M : Type 1} → statement M
 new-call-spec =
     tie.close
     (tie.spec
-    cast-t6
-    cast-t7
-    cast-t8
-    cast-t9
-    cast-t10
-    slice-aggregate-to-row
-    to-row-requires
-    to-row-requires-2
-    same-length
+    (λ c. search needs)
+    (λ c. search needs)
+    (λ c. search needs)
+    (λ c. search needs)
+    (λ c. search needs)
+    (λ c. search needs)
+    (λ c κs. search needs)
+    (λ c κs. search needs)
+    (λ c. search needs)
     returns)

@@ -1,9 +1,9 @@
 -- `layout::writers::new_object` meets its contract. Assumes nothing.
 use Prim.Native.Nat.{ℕ}
 use denote.Ref.{now}
-use lib.IntN.{ℤ, pos}
+use lib.IntN.{ℤ}
 use mathlib.Core.List.{List, [], _∷_}
-use mathlib.Core.Path.{_≡_, refl, ap, ap₂, _∙_}
+use mathlib.Core.Path.{refl, ap, ap₂, _∙_}
 use mir.Syntax.{w32}
 use mir.Val.{toZ}
 use mir.ValLaws.{toZ-pos}
@@ -18,27 +18,6 @@ use Rattle.layout.proofs.writers.new_object.Tie as tie
 -- values put in the fields of an object
 object-row : Cells → ℕ → ℕ → List ℤ → Cells
 object-row c o f zs = rowTo firstObject objectRows objectCells c o f zs
-
-cast-row : tie.Need-cast-row
-cast-row c = search needs
-
-cast-t8 : tie.Need-cast-t8
-cast-t8 c = search needs
-
-cast-t9 : tie.Need-cast-t9
-cast-t9 c = search needs
-
-slice-aggregate-to-row : tie.Need-slice-aggregate-to-row
-slice-aggregate-to-row c = search needs
-
-to-row-requires : tie.Need-to-row-requires
-to-row-requires c κs = search needs
-
-to-row-requires-2 : tie.Need-to-row-requires-2
-to-row-requires-2 c κs = search needs
-
-same-length : tie.Need-same-length
-same-length c = search needs
 
 returns : tie.Need-returns
 unfolding object-row placed fieldCell stands cellOf
@@ -57,11 +36,11 @@ pub new-object-spec : {M : Type 1} → statement M
 new-object-spec =
     tie.close
     (tie.spec
-    cast-row
-    cast-t8
-    cast-t9
-    slice-aggregate-to-row
-    to-row-requires
-    to-row-requires-2
-    same-length
+    (λ c. search needs)
+    (λ c. search needs)
+    (λ c. search needs)
+    (λ c. search needs)
+    (λ c κs. search needs)
+    (λ c κs. search needs)
+    (λ c. search needs)
     returns)

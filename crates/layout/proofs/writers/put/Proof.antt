@@ -1,6 +1,6 @@
 -- `layout::writers::put` meets its contract. Assumes nothing.
 use denote.Ref.{now}
-use mathlib.Core.Path.{_≡_, sym, ap, _∙_}
+use mathlib.Core.Path.{sym, ap, _∙_}
 use lib.ListN.{set}
 use Rattle.layout.proofs.Fields.{set-past}
 use mir.Syntax.{w32}
@@ -10,24 +10,9 @@ use borrow.Author.Needs.{needs}
 use Rattle.layout.proofs.writers.put.Statement.{statement}
 use Rattle.layout.proofs.writers.put.Tie as tie
 
-enum-told : tie.Need-enum-told
-enum-told c = search needs
-
-enum-known-found : tie.Need-enum-known-found
-enum-known-found c = search needs
-
-mul-z : tie.Need-mul-z
-mul-z c = search needs
-
-slice-set-from-z : tie.Need-slice-set-from-z
-slice-set-from-z c = search needs
-
 returns : tie.Need-returns
 unfolding putAt
 returns c = sym (ap (λ f. putAt (now (c .before .before .args .cells)) f (c .before .before .args .z)) (c .enum-told .given .1))
-
-same-length : tie.Need-same-length
-same-length c = search needs
 
 returns-2 : tie.Need-returns-2
 unfolding putAt
@@ -48,11 +33,11 @@ pub put-spec : {M : Type 1} → statement M
 put-spec =
     tie.close
     (tie.spec
-    enum-told
-    enum-known-found
-    mul-z
-    slice-set-from-z
+    (λ c. search needs)
+    (λ c. search needs)
+    (λ c. search needs)
+    (λ c. search needs)
     returns
-    same-length
+    (λ c. search needs)
     returns-2
     returns-3)

@@ -1,6 +1,6 @@
 -- `layout::writers::to_call` meets its contract. Assumes nothing.
 use denote.Ref.{now}
-use mathlib.Core.Path.{_≡_, ap₂, _∙_}
+use mathlib.Core.Path.{ap₂, _∙_}
 use mir.Syntax.{w32}
 use mir.ValLaws.{toZ-ofZ}
 use Rattle.layout.proofs.Fields.{put-call}
@@ -8,15 +8,6 @@ use Rattle.layout.specs.Vocabulary.Found.{putAt}
 use borrow.Author.Needs.{needs}
 use Rattle.layout.proofs.writers.to_call.Statement.{statement}
 use Rattle.layout.proofs.writers.to_call.Tie as tie
-
-call-cell-requires : tie.Need-call-cell-requires
-call-cell-requires c κs = search needs
-
-put-requires : tie.Need-put-requires
-put-requires c κs = search needs
-
-same-length : tie.Need-same-length
-same-length c = search needs
 
 returns : tie.Need-returns
 returns c =
@@ -26,4 +17,4 @@ returns c =
     ∙ put-call (now (a .args .cells)) _ _ (a .args .z)
 
 pub to-call-spec : {M : Type 1} → statement M
-to-call-spec = tie.close (tie.spec call-cell-requires put-requires same-length returns)
+to-call-spec = tie.close (tie.spec (λ c κs. search needs) (λ c κs. search needs) (λ c. search needs) returns)

@@ -4,15 +4,9 @@ use borrow.Author.Needs.{needs}
 use Rattle.layout.proofs.writers.to_calls.Statement.{statement}
 use Rattle.layout.proofs.writers.to_calls.Tie as tie
 
-to-count-requires : tie.Need-to-count-requires
-to-count-requires c κs = search needs
-
-same-length : tie.Need-same-length
-same-length c = search needs
-
 returns : tie.Need-returns
 unfolding written write stands cellOf
 returns c = c .before .to-count .ensures
 
 pub to-calls-spec : {M : Type 1} → statement M
-to-calls-spec = tie.close (tie.spec to-count-requires same-length returns)
+to-calls-spec = tie.close (tie.spec (λ c κs. search needs) (λ c. search needs) returns)

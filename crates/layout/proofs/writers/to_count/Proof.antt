@@ -10,15 +10,6 @@ use borrow.Author.Needs.{needs}
 use Rattle.layout.proofs.writers.to_count.Statement.{statement}
 use Rattle.layout.proofs.writers.to_count.Tie as tie
 
-cast-put : tie.Need-cast-put
-cast-put c = search needs
-
-put-requires : tie.Need-put-requires
-put-requires c κs = search needs
-
-same-length : tie.Need-same-length
-same-length c = search needs
-
 returns : tie.Need-returns
 unfolding putAt
 returns c =
@@ -26,4 +17,4 @@ returns c =
     c .before .put .ensures ∙ ap (set (now (a .args .cells)) (a .args .at)) (toZ-pos w32 (a .args .count) (omega (arith, a .fits .count)))
 
 pub to-count-spec : {M : Type 1} → statement M
-to-count-spec = tie.close (tie.spec cast-put put-requires same-length returns)
+to-count-spec = tie.close (tie.spec (λ c. search needs) (λ c κs. search needs) (λ c. search needs) returns)

@@ -1,6 +1,6 @@
 -- `layout::writers::to_object` meets its contract. Assumes nothing.
 use denote.Ref.{now}
-use mathlib.Core.Path.{_≡_, ap₂, _∙_}
+use mathlib.Core.Path.{ap₂, _∙_}
 use mir.Syntax.{w32}
 use mir.ValLaws.{toZ-ofZ}
 use Rattle.layout.proofs.Fields.{put-placed}
@@ -9,15 +9,6 @@ use Rattle.layout.specs.Vocabulary.Found.{putAt}
 use borrow.Author.Needs.{needs}
 use Rattle.layout.proofs.writers.to_object.Statement.{statement}
 use Rattle.layout.proofs.writers.to_object.Tie as tie
-
-object-cell-requires : tie.Need-object-cell-requires
-object-cell-requires c κs = search needs
-
-put-requires : tie.Need-put-requires
-put-requires c κs = search needs
-
-same-length : tie.Need-same-length
-same-length c = search needs
 
 returns : tie.Need-returns
 unfolding written toObject
@@ -28,4 +19,4 @@ returns c =
     ∙ put-placed (now (a .args .cells)) _ (a .args .z)
 
 pub to-object-spec : {M : Type 1} → statement M
-to-object-spec = tie.close (tie.spec object-cell-requires put-requires same-length returns)
+to-object-spec = tie.close (tie.spec (λ c κs. search needs) (λ c κs. search needs) (λ c. search needs) returns)

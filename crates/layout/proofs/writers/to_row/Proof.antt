@@ -12,10 +12,6 @@ use Rattle.layout.specs.Vocabulary.Found.{asCell, fieldCell, putAt, rowT
 use Rattle.layout.proofs.Fields.{length-put, row-more, row-done}
 use Rattle.layout.proofs.writers.to_row.Statement.{statement}
 use Rattle.layout.proofs.writers.to_row.Tie as tie
-use Rattle.layout.proofs.writers.to_row.Reads as reads
-use Rattle.layout.proofs.writers.to_row.Lts as lts
-use Rattle.layout.proofs.field_cell.Reads as field-cell-reads
-use Rattle.layout.proofs.writers.put.Reads as put-reads
 
 abbrev Inv-loop : tie.InvT-loop
 Inv-loop first rows width cells₀ row from values i₀ cells i =
@@ -30,30 +26,6 @@ loop-holds c =
     let a = c .args in
     let e : a .from + 0 ≡ a .from = omega arith in
     (omega arith, refl, ap (λ f. rowTo (a .first) (a .rows) (a .width) (now (a .cells)) (a .row) f (now (a .values))) e)
-
-cast-field-cell : tie.Need-cast-field-cell Inv-loop μ-loop
-cast-field-cell c = search needs
-
-add-field-cell : tie.Need-add-field-cell Inv-loop μ-loop
-add-field-cell c = search needs
-
-field-cell-requires : tie.Need-field-cell-requires Inv-loop μ-loop
-field-cell-requires c κs = search needs
-
-mul-put : tie.Need-mul-put Inv-loop μ-loop
-mul-put c = search needs
-
-shared-slice-copy-out-put : tie.Need-shared-slice-copy-out-put Inv-loop μ-loop
-shared-slice-copy-out-put c = search needs
-
-put-requires : tie.Need-put-requires Inv-loop μ-loop
-put-requires c κs = search needs
-
-add-i : tie.Need-add-i Inv-loop μ-loop
-add-i c = search needs
-
-loop-less : tie.Need-loop-less Inv-loop μ-loop
-loop-less c = search needs
 
 loop-again : tie.Need-loop-again Inv-loop μ-loop
 loop-again c =
@@ -86,14 +58,14 @@ to-row-spec =
     Inv-loop
     μ-loop
     loop-holds
-    cast-field-cell
-    add-field-cell
-    field-cell-requires
-    mul-put
-    shared-slice-copy-out-put
-    put-requires
-    add-i
-    loop-less
+    (λ c. search needs)
+    (λ c. search needs)
+    (λ c κs. search needs)
+    (λ c. search needs)
+    (λ c. search needs)
+    (λ c κs. search needs)
+    (λ c. search needs)
+    (λ c. search needs)
     loop-again
     same-length
     returns)

@@ -10,15 +10,6 @@ use borrow.Author.Needs.{needs}
 use Rattle.layout.proofs.writers.to_stage.Statement.{statement}
 use Rattle.layout.proofs.writers.to_stage.Tie as tie
 
-cast-to-call : tie.Need-cast-to-call
-cast-to-call c = search needs
-
-to-call-requires : tie.Need-to-call-requires
-to-call-requires c κs = search needs
-
-same-length : tie.Need-same-length
-same-length c = search needs
-
 returns : tie.Need-returns
 unfolding staged
 returns c =
@@ -28,4 +19,4 @@ returns c =
     ∙ ap (λ z. written cells (toCall cells (a .args .l .0) stage z)) (toZ-pos w32 (a .args .stage) (omega (arith, a .fits .stage)))
 
 pub to-stage-spec : {M : Type 1} → statement M
-to-stage-spec = tie.close (tie.spec cast-to-call to-call-requires same-length returns)
+to-stage-spec = tie.close (tie.spec (λ c. search needs) (λ c κs. search needs) (λ c. search needs) returns)

@@ -1,5 +1,5 @@
 -- `lookup::lines::goes_to` meets its contract. Assumes nothing.
-use Prim.Native.Nat.{ℕ, _+_, _-_, _≤_, _<_}
+use Prim.Native.Nat.{ℕ, _+_, _-_, _<_}
 use mathlib.Core.List.{List, []}
 use mathlib.Core.Option.{some}
 use mathlib.Core.Path.{_≡_, ap, _∙_}
@@ -39,27 +39,6 @@ module _ (x : List ℕ) (at : Standing) (h : Lined x at) where
   lent-small : goesTo (shapesIn (lent x (at .body))) (at .line) < 65536
   lent-small = omega (arith, ap (λ l. goesTo l (at .line)) (lent-shapes x (at .body)), goes-few x at h)
 
-cast-first : tie.Need-cast-first
-cast-first c = search needs
-
-cast-goes-to : tie.Need-cast-goes-to
-cast-goes-to c = search needs
-
-add-goes-to : tie.Need-add-goes-to
-add-goes-to c = search needs
-
-sub-goes-to : tie.Need-sub-goes-to
-sub-goes-to c = search needs
-
-part-goes-to-start : tie.Need-part-goes-to-start
-part-goes-to-start c = search needs
-
-part-goes-to-end : tie.Need-part-goes-to-end
-part-goes-to-end c = search needs
-
-cast-goes-to-2 : tie.Need-cast-goes-to-2
-cast-goes-to-2 c = search needs
-
 goes-to-requires : tie.Need-goes-to-requires
 goes-to-requires c κs =
     let b = c .before .before .before .before .before .before in
@@ -80,13 +59,13 @@ pub goes-to-spec : {M : Type 1} → statement M
 goes-to-spec =
     tie.close
     (tie.spec
-    cast-first
-    cast-goes-to
-    add-goes-to
-    sub-goes-to
-    part-goes-to-start
-    part-goes-to-end
-    cast-goes-to-2
+    (λ c. search needs)
+    (λ c. search needs)
+    (λ c. search needs)
+    (λ c. search needs)
+    (λ c. search needs)
+    (λ c. search needs)
+    (λ c. search needs)
     goes-to-requires
     cast-result
     returns)

@@ -24,41 +24,8 @@ inside c =
     let b = c .before .before .before .before .before .before .before .before in
     subst (Inside (now (b .args .text))) (sym (c .code-row .ensures)) (b .pre .1 .1 .1)
 
-cast-statement : tie.Need-cast-statement
-cast-statement c = search needs
-
-cast-statement-2 : tie.Need-cast-statement-2
-cast-statement-2 c = search needs
-
-add-code-row : tie.Need-add-code-row
-add-code-row c = search needs
-
-code-row-requires : tie.Need-code-row-requires
-code-row-requires c κs = search needs
-
-cast-from : tie.Need-cast-from
-cast-from c = search needs
-
-cast-statement-3 : tie.Need-cast-statement-3
-cast-statement-3 c = search needs
-
-add-statement : tie.Need-add-statement
-add-statement c = search needs
-
-sub-statement : tie.Need-sub-statement
-sub-statement c = search needs
-
-part-statement-start : tie.Need-part-statement-start
-part-statement-start c = search needs
-
 part-statement-end : tie.Need-part-statement-end
 part-statement-end c = let h = inside (c .before .before) in search needs
-
-classes-requires : tie.Need-classes-requires
-classes-requires c κs = search needs
-
-statement-requires : tie.Need-statement-requires
-statement-requires c κs = search needs
 
 returns : tie.Need-returns
 unfolding around
@@ -72,16 +39,16 @@ pub statement-spec : {M : Type 1} → statement M
 statement-spec =
     tie.close
     (tie.spec
-    cast-statement
-    cast-statement-2
-    add-code-row
-    code-row-requires
-    cast-from
-    cast-statement-3
-    add-statement
-    sub-statement
-    part-statement-start
+    (λ c. search needs)
+    (λ c. search needs)
+    (λ c. search needs)
+    (λ c κs. search needs)
+    (λ c. search needs)
+    (λ c. search needs)
+    (λ c. search needs)
+    (λ c. search needs)
+    (λ c. search needs)
     part-statement-end
-    classes-requires
-    statement-requires
+    (λ c κs. search needs)
+    (λ c κs. search needs)
     returns)

@@ -8,31 +8,10 @@ use Rattle.performing.proofs.Choosing.{must-failed, bound-none, bound-s
 use Rattle.performing.proofs.messages.bind.Statement.{statement}
 use Rattle.performing.proofs.messages.bind.Tie as tie
 
-in-stage-requires : tie.Need-in-stage-requires
-in-stage-requires c κs = search needs
-
-body-of-requires : tie.Need-body-of-requires
-body-of-requires c κs = search needs
-
-enum-told : tie.Need-enum-told
-enum-told c = search needs
-
-enum-told-2 : tie.Need-enum-told-2
-enum-told-2 c = search needs
-
-to-stage-requires : tie.Need-to-stage-requires
-to-stage-requires c κs = search needs
-
-same-length : tie.Need-same-length
-same-length c = search needs
-
 returns : tie.Need-returns
 returns c s m b =
     let f = c .before .before .body-of in
     refused-done _ _ _ (bound-none _ m _ _ (sym (c .before .before .before .before .before .in-stage .ensures) ∙ c .before .before .before .before .if1 .taken) _ (f .ensures s m b) (c .enum-told .given .1))
-
-same-length-2 : tie.Need-same-length-2
-same-length-2 c = search needs
 
 returns-2 : tie.Need-returns-2
 returns-2 c s m b =
@@ -40,9 +19,6 @@ returns-2 c s m b =
     let f = k .before .before .body-of in
     same-done _ _ _ _ _ (bound-some _ m _ _ (sym (k .before .before .before .before .before .in-stage .ensures) ∙ k .before .before .before .before .if1 .taken) _ (f .ensures s m b) _ (k .enum-told2 .given .1))
     (all-written _ _ _ (c .before .to-stage .ensures))
-
-same-length-3 : tie.Need-same-length-3
-same-length-3 c = search needs
 
 returns-3 : tie.Need-returns-3
 unfolding Messages.bind
@@ -52,14 +28,14 @@ pub bind-spec : {M : Type 1} → statement M
 bind-spec =
     tie.close
     (tie.spec
-    in-stage-requires
-    body-of-requires
-    enum-told
-    enum-told-2
-    to-stage-requires
-    same-length
+    (λ c κs. search needs)
+    (λ c κs. search needs)
+    (λ c. search needs)
+    (λ c. search needs)
+    (λ c κs. search needs)
+    (λ c. search needs)
     returns
-    same-length-2
+    (λ c. search needs)
     returns-2
-    same-length-3
+    (λ c. search needs)
     returns-3)

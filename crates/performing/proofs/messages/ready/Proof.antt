@@ -17,26 +17,11 @@ standing c = stands-there _ _ _ _ _ (c .before .before .standing-of .ensures _ _
 standing-of-requires : tie.Need-standing-of-requires
 standing-of-requires c κs = let s = c .before .before .before in (told _ _ _ (s .pre .0), s .pre .1)
 
-enum-told : tie.Need-enum-told
-enum-told c = search needs
-
-enum-known-at : tie.Need-enum-known-at
-enum-known-at c = search needs
-
 statement-requires : tie.Need-statement-requires
 statement-requires c κs =
     let k = c .before .before .before .before .before .before .before .pre .0 in
     let st = standing (c .before) in
     (k .sized .0, (some-classes _ _ _ k, (line-below _ _ _ k _ _ _ st, line-inside _ _ _ k _ _ _ st)))
-
-enum-told-2 : tie.Need-enum-told-2
-enum-told-2 c = search needs
-
-enum-known-read : tie.Need-enum-known-read
-enum-known-read c = search needs
-
-ready-at-requires : tie.Need-ready-at-requires
-ready-at-requires c κs = search needs
 
 returns : tie.Need-returns
 returns c =
@@ -63,12 +48,12 @@ ready-spec =
     tie.close
     (tie.spec
     standing-of-requires
-    enum-told
-    enum-known-at
+    (λ c. search needs)
+    (λ c. search needs)
     statement-requires
-    enum-told-2
-    enum-known-read
-    ready-at-requires
+    (λ c. search needs)
+    (λ c. search needs)
+    (λ c κs. search needs)
     returns
     returns-2
     returns-3)

@@ -33,9 +33,6 @@ of-other (Said.While a) h = refl
 of-other Said.Od h = refl
 of-other (Said.Return a) h = refl
 
-enum-known-statement : tie.Need-enum-known-statement
-enum-known-statement c = search needs
-
 returns : tie.Need-returns
 unfolding readySaid
 returns c = sym (ap readySaid (c .before .statement .given .1))
@@ -44,4 +41,4 @@ returns-2 : tie.Need-returns-2
 returns-2 c = of-other _ (c .match .keys2)
 
 pub ready-at-spec : {M : Type 1} → statement M
-ready-at-spec = tie.close (tie.spec enum-known-statement returns returns-2)
+ready-at-spec = tie.close (tie.spec (λ c. search needs) returns returns-2)

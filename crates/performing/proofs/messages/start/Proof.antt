@@ -42,45 +42,12 @@ idle c b e =
     let f = c .before .of-object in
     ap (λ z. eqZ z (pos 0)) (sym (handed _ _ (f .ok) (f .ensures))) ∙ sym (c .is-number .ensures) ∙ e
 
-in-stage-requires : tie.Need-in-stage-requires
-in-stage-requires c κs = search needs
-
-same-length : tie.Need-same-length
-same-length c = search needs
-
 returns : tie.Need-returns
 unfolding Messages.start Messages.startIn
 returns c = must-failed _ _ _ _ (sym (c .before .in-stage .ensures) ∙ not-true _ (c .if1 .taken))
 
-of-call-requires : tie.Need-of-call-requires
-of-call-requires c κs = search needs
-
-object-of-requires : tie.Need-object-of-requires
-object-of-requires c κs = search needs
-
-enum-told : tie.Need-enum-told
-enum-told c = search needs
-
-enum-known-o : tie.Need-enum-known-o
-enum-known-o c = search needs
-
-of-object-requires : tie.Need-of-object-requires
-of-object-requires c κs = search needs
-
-is-number-requires : tie.Need-is-number-requires
-is-number-requires c κs = search needs
-
-start-idle-requires : tie.Need-start-idle-requires
-start-idle-requires c κs = search needs
-
-same-length-2 : tie.Need-same-length-2
-same-length-2 c = search needs
-
 returns-2 : tie.Need-returns-2
 returns-2 c = absurd (object-missed _ _ (c .before .before .before .before .before .before .before .before .before .before .before .pre .1 .1 .0) (found (c .before .before) ∙ c .enum-told .given .1))
-
-same-length-3 : tie.Need-same-length-3
-same-length-3 c = search needs
 
 returns-3 : tie.Need-returns-3
 unfolding Messages.startIn startReady
@@ -89,9 +56,6 @@ returns-3 c =
     let o = i .before .before .before .before in
     same-done _ _ _ _ _ (started-in _ _ _ _ (callee-is o))
     (must-passed _ _ _ _ _ _ (is-bound (o .before .before .before .before .before)) (must-passed _ _ _ _ _ _ (idle i true (c .before .before .before .if2 .taken)) (c .before .start-idle .ensures)))
-
-same-length-4 : tie.Need-same-length-4
-same-length-4 c = search needs
 
 returns-4 : tie.Need-returns-4
 unfolding Messages.startIn
@@ -104,19 +68,19 @@ pub start-spec : {M : Type 1} → statement M
 start-spec =
     tie.close
     (tie.spec
-    in-stage-requires
-    same-length
+    (λ c κs. search needs)
+    (λ c. search needs)
     returns
-    of-call-requires
-    object-of-requires
-    enum-told
-    enum-known-o
-    of-object-requires
-    is-number-requires
-    start-idle-requires
-    same-length-2
+    (λ c κs. search needs)
+    (λ c κs. search needs)
+    (λ c. search needs)
+    (λ c. search needs)
+    (λ c κs. search needs)
+    (λ c κs. search needs)
+    (λ c κs. search needs)
+    (λ c. search needs)
     returns-2
-    same-length-3
+    (λ c. search needs)
     returns-3
-    same-length-4
+    (λ c. search needs)
     returns-4)

@@ -18,30 +18,9 @@ value : (c : tie.After-z)
     ready (modelOf (now (a .text))) (now (a .cells)) (a .here .object .0) (a .here .label .0) ≡ Value (c .z .given .0 .0))
 value c = sym (c .before .before .ready .ensures) ∙ c .z .given .1
 
-ready-requires : tie.Need-ready-requires
-ready-requires c κs = search needs
-
-enum-told : tie.Need-enum-told
-enum-told c = search needs
-
-enum-known-z : tie.Need-enum-known-z
-enum-known-z c = search needs
-
-is-true-requires : tie.Need-is-true-requires
-is-true-requires c κs = search needs
-
-started-requires : tie.Need-started-requires
-started-requires c κs = search needs
-
-same-length : tie.Need-same-length
-same-length c = search needs
-
 returns : tie.Need-returns
 unfolding startReady
 returns c = did-not-fit _ _ _ (sym (c .before .before .ready .ensures) ∙ c .enum-told .given .1)
-
-same-length-2 : tie.Need-same-length-2
-same-length-2 c = search needs
 
 returns-2 : tie.Need-returns-2
 unfolding startReady
@@ -50,9 +29,6 @@ returns-2 c =
     let z = i .before .before .z .given in
     worked-out _ _ _ _ (z .0 .0) _ (value (i .before .before))
     (must-passed _ _ _ _ _ _ (tested-true _ true _ (i .before .known-told .given .0 .1) (i .is-true .ensures) (c .before .before .before .if1 .taken)) (c .before .started .ensures))
-
-same-length-3 : tie.Need-same-length-3
-same-length-3 c = search needs
 
 returns-3 : tie.Need-returns-3
 unfolding startReady
@@ -66,14 +42,14 @@ pub start-idle-spec : {M : Type 1} → statement M
 start-idle-spec =
     tie.close
     (tie.spec
-    ready-requires
-    enum-told
-    enum-known-z
-    is-true-requires
-    started-requires
-    same-length
+    (λ c κs. search needs)
+    (λ c. search needs)
+    (λ c. search needs)
+    (λ c κs. search needs)
+    (λ c κs. search needs)
+    (λ c. search needs)
     returns
-    same-length-2
+    (λ c. search needs)
     returns-2
-    same-length-3
+    (λ c. search needs)
     returns-3)

@@ -10,18 +10,6 @@ use Rattle.forms.proofs.Written.{all-written, then}
 use Rattle.performing.proofs.messages.started.Statement.{statement}
 use Rattle.performing.proofs.messages.started.Tie as tie
 
-to-stage-requires : tie.Need-to-stage-requires
-to-stage-requires c κs = search needs
-
-cast-to-object : tie.Need-cast-to-object
-cast-to-object c = search needs
-
-to-object-requires : tie.Need-to-object-requires
-to-object-requires c κs = search needs
-
-same-length : tie.Need-same-length
-same-length c = search needs
-
 returns : tie.Need-returns
 unfolding Messages.started
 returns c =
@@ -33,4 +21,4 @@ returns c =
 
 pub started-spec : {M : Type 1} → statement M
 started-spec =
-    tie.close (tie.spec to-stage-requires cast-to-object to-object-requires same-length returns)
+    tie.close (tie.spec (λ c κs. search needs) (λ c. search needs) (λ c κs. search needs) (λ c. search needs) returns)

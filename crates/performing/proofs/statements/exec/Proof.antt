@@ -71,41 +71,17 @@ got-is s t e = cc
 got-not : (s : Declared.Statement) (n : ℕ) → Read.Got s ≡ Read.Bad n → ⊥
 got-not s n e = let z : _≡_ {A = ℕ} 0 1 = cc in omega arith
 
-of-object-requires : tie.Need-of-object-requires
-of-object-requires c κs = search needs
-
-label-of-requires : tie.Need-label-of-requires
-label-of-requires c κs = search needs
-
-enum-told : tie.Need-enum-told
-enum-told c = search needs
-
-enum-known-l : tie.Need-enum-known-l
-enum-known-l c = search needs
-
 standing-of-requires : tie.Need-standing-of-requires
 standing-of-requires c κs =
     let s = c .before .before .before .before .before .before .before .before .before .before in
     let h = s .pre .1 in
     (told _ _ _ (s .pre .0), (few-objects _ _ h, callee-in-use _ _ h _ (label-within _ _ _ (label-is (c .before .before)))))
 
-enum-told-2 : tie.Need-enum-told-2
-enum-told-2 c = search needs
-
-enum-known-at : tie.Need-enum-known-at
-enum-known-at c = search needs
-
 statement-requires : tie.Need-statement-requires
 statement-requires c κs =
     let k = c .before .before .before .before .before .before .before .before .before .before .before .before .before .before .before .pre .0 in
     let h = stands (c .before .before) in
     (k .sized .0, (some-classes _ _ _ k, (line-below _ _ _ k _ _ _ h, line-inside _ _ _ k _ _ _ h)))
-
-enum-told-3 : tie.Need-enum-told-3
-enum-told-3 c = search needs
-
-enum-known-read : tie.Need-enum-known-read
-enum-known-read c = search needs
 
 performed-requires : tie.Need-performed-requires
 performed-requires c κs =
@@ -125,14 +101,8 @@ performed-requires c κs =
       ),
     )
 
-same-length : tie.Need-same-length
-same-length c = search needs
-
 returns : tie.Need-returns
 returns c = refused-done _ _ _ (exec-idle _ _ _ (label-none _ (sym (found (c .before .before)) ∙ c .enum-told .given .1)))
-
-same-length-2 : tie.Need-same-length-2
-same-length-2 c = search needs
 
 returns-2 : tie.Need-returns-2
 unfolding StandingSaid
@@ -142,14 +112,8 @@ returns-2 c =
     (exec-past _ _ _ _ (label-is (c .before .before .before .before .before))
     (subst (StandingSaid _ _ _ _) (c .enum-told2 .given .1) (c .before .before .standing-of .ensures _ (modelOf (now (s .args .text))) (s .pre .0 .rows))))
 
-same-length-3 : tie.Need-same-length-3
-same-length-3 c = search needs
-
 returns-3 : tie.Need-returns-3
 returns-3 c = absurd (got-not _ _ (sym (said (c .before .before)) ∙ c .enum-told3 .given .1))
-
-same-length-4 : tie.Need-same-length-4
-same-length-4 c = search needs
 
 returns-4 : tie.Need-returns-4
 returns-4 c =
@@ -165,22 +129,22 @@ pub exec-spec : {M : Type 1} → statement M
 exec-spec =
     tie.close
     (tie.spec
-    of-object-requires
-    label-of-requires
-    enum-told
-    enum-known-l
+    (λ c κs. search needs)
+    (λ c κs. search needs)
+    (λ c. search needs)
+    (λ c. search needs)
     standing-of-requires
-    enum-told-2
-    enum-known-at
+    (λ c. search needs)
+    (λ c. search needs)
     statement-requires
-    enum-told-3
-    enum-known-read
+    (λ c. search needs)
+    (λ c. search needs)
     performed-requires
-    same-length
+    (λ c. search needs)
     returns
-    same-length-2
+    (λ c. search needs)
     returns-2
-    same-length-3
+    (λ c. search needs)
     returns-3
-    same-length-4
+    (λ c. search needs)
     returns-4)

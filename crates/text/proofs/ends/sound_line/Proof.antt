@@ -18,20 +18,11 @@ Inv-loop text at stop i₀ i = soundEnd text at ≡ endFrom at i (lines (drop i 
 abbrev μ-loop : tie.MeasureT-loop
 μ-loop text at stop i₀ i = stop - i
 
-search-end-requires : tie.Need-search-end-requires Inv-loop μ-loop
-search-end-requires c κs = search needs
-
 past-groups-requires : tie.Need-past-groups-requires Inv-loop μ-loop
 past-groups-requires c κs = (omega arith, omega arith)
 
 loop-holds : tie.Need-loop-holds Inv-loop μ-loop
 loop-holds c = let p = c .past-groups .ensures in end-from-plain _ _ _ (p .0 .0) (omega arith) (p .1)
-
-shared-slice-read-b : tie.Need-shared-slice-read-b Inv-loop μ-loop
-shared-slice-read-b c = omega arith
-
-is-plain-requires : tie.Need-is-plain-requires Inv-loop μ-loop
-is-plain-requires c κs = search needs
 
 returns : tie.Need-returns Inv-loop μ-loop
 returns c =
@@ -43,12 +34,6 @@ returns-2 c =
     let l = c .before .before .before .before .before .loop in
     let o = sym (c .before .before .is-plain .ensures) ∙ not-true _ (c .before .if1 .taken) in
     sym (l .inv ∙ end-outside _ _ (l .i) (omega arith) o (c .if2 .left))
-
-add-i : tie.Need-add-i Inv-loop μ-loop
-add-i c = omega arith
-
-loop-less : tie.Need-loop-less Inv-loop μ-loop
-loop-less c = omega arith
 
 loop-again : tie.Need-loop-again Inv-loop μ-loop
 loop-again c =
@@ -65,14 +50,14 @@ sound-line-spec =
     (tie.spec
     Inv-loop
     μ-loop
-    search-end-requires
+    (λ c κs. search needs)
     past-groups-requires
     loop-holds
-    shared-slice-read-b
-    is-plain-requires
+    (λ c. omega arith)
+    (λ c κs. search needs)
     returns
     returns-2
-    add-i
-    loop-less
+    (λ c. omega arith)
+    (λ c. omega arith)
     loop-again
     returns-3)

@@ -30,23 +30,11 @@ within c = name-within _ _ _ (named c)
 loop-holds : tie.Need-loop-holds Inv-loop μ-loop
 loop-holds c = (omega arith, omega arith, refl)
 
-kind-name-requires : tie.Need-kind-name-requires Inv-loop μ-loop
-kind-name-requires c κs = search needs
-
-enum-known-at : tie.Need-enum-known-at Inv-loop μ-loop
-enum-known-at c = search needs
-
 sub-chosen : tie.Need-sub-chosen Inv-loop μ-loop
 sub-chosen c = let w = within (c .before) in omega arith
 
 part-chosen-start : tie.Need-part-chosen-start Inv-loop μ-loop
 part-chosen-start c = let w = within (c .before) in omega arith
-
-part-chosen-end : tie.Need-part-chosen-end Inv-loop μ-loop
-part-chosen-end c = search needs
-
-chosen-requires : tie.Need-chosen-requires Inv-loop μ-loop
-chosen-requires c κs = search needs
 
 returns : tie.Need-returns Inv-loop μ-loop
 returns c =
@@ -56,23 +44,11 @@ returns c =
     let e = found s (l .loop .kind) (l .loop .inv .0) (m .before .before .before .loop-test .taken) (m .at .given .0 .0) (named m) in
     c .chosen .ensures ∙ ap (λ t. chosen (kindAt (l .loop .kind)) (digitsAlone t)) (take-rest (m .at .given .0 .0) s) ∙ sym e ∙ l .loop .inv .2
 
-enum-told : tie.Need-enum-told Inv-loop μ-loop
-enum-told c = search needs
-
-add-kind : tie.Need-add-kind Inv-loop μ-loop
-add-kind c = search needs
-
-loop-less : tie.Need-loop-less Inv-loop μ-loop
-loop-less c = search needs
-
 loop-again : tie.Need-loop-again Inv-loop μ-loop
 loop-again c =
     let l = c .before .before .before .before in
     let e = word-bad _ _ (sym (c .before .before .kind-name .ensures) ∙ c .enum-told .given .1) in
     (omega arith, omega arith, sym (not-found _ (l .loop .kind) (l .loop .inv .0) (c .before .before .before .loop-test .taken) _ e) ∙ l .loop .inv .2)
-
-no-choice-requires : tie.Need-no-choice-requires Inv-loop μ-loop
-no-choice-requires c κs = search needs
 
 returns-2 : tie.Need-returns-2 Inv-loop μ-loop
 returns-2 c =
@@ -86,16 +62,16 @@ choice-of-spec =
     Inv-loop
     μ-loop
     loop-holds
-    kind-name-requires
-    enum-known-at
+    (λ c κs. search needs)
+    (λ c. search needs)
     sub-chosen
     part-chosen-start
-    part-chosen-end
-    chosen-requires
+    (λ c. search needs)
+    (λ c κs. search needs)
     returns
-    enum-told
-    add-kind
-    loop-less
+    (λ c. search needs)
+    (λ c. search needs)
+    (λ c. search needs)
     loop-again
-    no-choice-requires
+    (λ c κs. search needs)
     returns-2)

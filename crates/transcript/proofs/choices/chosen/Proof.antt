@@ -25,21 +25,6 @@ plain n h = toZ-ofZ w32 (pos n) (record { sfits = h })
 found : (c : tie.After-n) → digitsAlone (c .before .before .before .before .args .digits .now) ≡ some (c .n .given .0 .0)
 found c = natural-some _ _ (sym (c .before .before .digits-alone .ensures) ∙ c .n .given .1)
 
-digits-alone-requires : tie.Need-digits-alone-requires
-digits-alone-requires c κs = search needs
-
-enum-told : tie.Need-enum-told
-enum-told c = search needs
-
-no-choice-requires : tie.Need-no-choice-requires
-no-choice-requires c κs = search needs
-
-enum-known-n : tie.Need-enum-known-n
-enum-known-n c = search needs
-
-cast-t6 : tie.Need-cast-t6
-cast-t6 c = search needs
-
 cast-t7 : tie.Need-cast-t7
 cast-t7 c = let b = alone-below _ _ (found (c .before)) in omega arith
 
@@ -60,11 +45,11 @@ pub chosen-spec : {M : Type 1} → statement M
 chosen-spec =
     tie.close
     (tie.spec
-    digits-alone-requires
-    enum-told
-    no-choice-requires
-    enum-known-n
-    cast-t6
+    (λ c κs. search needs)
+    (λ c. search needs)
+    (λ c κs. search needs)
+    (λ c. search needs)
+    (λ c. search needs)
     cast-t7
     returns
     returns-2)

@@ -17,30 +17,6 @@ read c =
     let a = c .before .before .before .args in
     c .decimal .ensures ∙ ap (λ s. asNumber (decimal 9 s 0)) (one-byte (a .s .now) (a .at) (c .before .before .before .pre))
 
-add-end : tie.Need-add-end
-add-end c = search needs
-
-sub-decimal : tie.Need-sub-decimal
-sub-decimal c = search needs
-
-part-decimal-start : tie.Need-part-decimal-start
-part-decimal-start c = search needs
-
-part-decimal-end : tie.Need-part-decimal-end
-part-decimal-end c = search needs
-
-decimal-requires : tie.Need-decimal-requires
-decimal-requires c κs = search needs
-
-enum-told : tie.Need-enum-told
-enum-told c = search needs
-
-enum-known-d : tie.Need-enum-known-d
-enum-known-d c = search needs
-
-cast-t11 : tie.Need-cast-t11
-cast-t11 c = search needs
-
 returns : tie.Need-returns
 unfolding asNatural
 returns c = sym (ap asNatural (digit-bad _ _ (number-bad _ _ (sym (read (c .before .before)) ∙ c .enum-told .given .1))))
@@ -53,13 +29,13 @@ pub digit-spec : {M : Type 1} → statement M
 digit-spec =
     tie.close
     (tie.spec
-    add-end
-    sub-decimal
-    part-decimal-start
-    part-decimal-end
-    decimal-requires
-    enum-told
-    enum-known-d
-    cast-t11
+    (λ c. search needs)
+    (λ c. search needs)
+    (λ c. search needs)
+    (λ c. search needs)
+    (λ c κs. search needs)
+    (λ c. search needs)
+    (λ c. search needs)
+    (λ c. search needs)
     returns
     returns-2)

@@ -40,12 +40,6 @@ returns-2 c = sym (ap asNatural (alone-long _ (c .if2 .taken)))
 loop-holds : tie.Need-loop-holds Inv-loop μ-loop
 loop-holds c = (omega arith, omega arith, refl)
 
-digit-requires : tie.Need-digit-requires Inv-loop μ-loop
-digit-requires c κs = search needs
-
-enum-told : tie.Need-enum-told Inv-loop μ-loop
-enum-told c = search needs
-
 returns-3 : tie.Need-returns-3 Inv-loop μ-loop
 unfolding asNatural
 returns-3 c =
@@ -53,9 +47,6 @@ returns-3 c =
     let s = l .before .before .before .before .args .s .now in
     let o = digits-other s (l .loop .n) (l .loop .i) (c .before .before .before .loop-test .taken) (natural-none _ (sym (c .before .before .digit .ensures) ∙ c .enum-told .given .1)) in
     sym (ap asNatural (alone-within s (l .before .before .if1 .left) (l .before .if2 .left) ∙ sym (l .loop .inv .2) ∙ o))
-
-enum-known-d : tie.Need-enum-known-d Inv-loop μ-loop
-enum-known-d c = search needs
 
 mul-n : tie.Need-mul-n Inv-loop μ-loop
 mul-n c = let b = below (c .before .before .before .before .before) in omega arith
@@ -65,12 +56,6 @@ add-n c =
     let b = below (c .before .before .before .before .before) in
     let d = digit-is _ _ (found (c .before)) in
     omega arith
-
-add-i : tie.Need-add-i Inv-loop μ-loop
-add-i c = search needs
-
-loop-less : tie.Need-loop-less Inv-loop μ-loop
-loop-less c = search needs
 
 loop-again : tie.Need-loop-again Inv-loop μ-loop
 loop-again c =
@@ -98,13 +83,13 @@ digits-alone-spec =
     returns
     returns-2
     loop-holds
-    digit-requires
-    enum-told
+    (λ c κs. search needs)
+    (λ c. search needs)
     returns-3
-    enum-known-d
+    (λ c. search needs)
     mul-n
     add-n
-    add-i
-    loop-less
+    (λ c. search needs)
+    (λ c. search needs)
     loop-again
     returns-4)

@@ -9,36 +9,6 @@ use Rattle.transcript.proofs.KindsFound.{fifth}
 use Rattle.transcript.proofs.choices.kind_name.Statement.{statement}
 use Rattle.transcript.proofs.choices.kind_name.Tie as tie
 
-slice-aggregate-word : tie.Need-slice-aggregate-word
-slice-aggregate-word c = search needs
-
-word-requires : tie.Need-word-requires
-word-requires c κs = search needs
-
-slice-aggregate-word-2 : tie.Need-slice-aggregate-word-2
-slice-aggregate-word-2 c = search needs
-
-word-requires-2 : tie.Need-word-requires-2
-word-requires-2 c κs = search needs
-
-slice-aggregate-word-3 : tie.Need-slice-aggregate-word-3
-slice-aggregate-word-3 c = search needs
-
-word-requires-3 : tie.Need-word-requires-3
-word-requires-3 c κs = search needs
-
-slice-aggregate-word-4 : tie.Need-slice-aggregate-word-4
-slice-aggregate-word-4 c = search needs
-
-word-requires-4 : tie.Need-word-requires-4
-word-requires-4 c κs = search needs
-
-slice-aggregate-word-5 : tie.Need-slice-aggregate-word-5
-slice-aggregate-word-5 c = search needs
-
-word-requires-5 : tie.Need-word-requires-5
-word-requires-5 c κs = search needs
-
 returns : tie.Need-returns
 unfolding kindName kindAt
 returns c = c .word .ensures ∙ ap (λ n. asWord (word (kindName (kindAt n)) (c .before .before .before .before .args .line .now) 0)) (sym (c .before .before .match .keys1))
@@ -67,16 +37,16 @@ pub kind-name-spec : {M : Type 1} → statement M
 kind-name-spec =
     tie.close
     (tie.spec
-    slice-aggregate-word
-    word-requires
-    slice-aggregate-word-2
-    word-requires-2
-    slice-aggregate-word-3
-    word-requires-3
-    slice-aggregate-word-4
-    word-requires-4
-    slice-aggregate-word-5
-    word-requires-5
+    (λ c. search needs)
+    (λ c κs. search needs)
+    (λ c. search needs)
+    (λ c κs. search needs)
+    (λ c. search needs)
+    (λ c κs. search needs)
+    (λ c. search needs)
+    (λ c κs. search needs)
+    (λ c. search needs)
+    (λ c κs. search needs)
     returns
     returns-2
     returns-3

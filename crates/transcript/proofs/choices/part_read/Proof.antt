@@ -11,11 +11,8 @@ use Rattle.transcript.proofs.choices.part_read.Tie as tie
 slice-aggregate-result : tie.Need-slice-aggregate-result
 slice-aggregate-result c = simp length-take (omega arith)
 
-returns : tie.Need-returns
-returns c = search needs
-
 returns-2 : tie.Need-returns-2
 returns-2 c = sym (take-all longestInput (c .before .args .input .now) (omega arith))
 
 pub part-read-spec : {M : Type 1} → statement M
-part-read-spec = tie.close (tie.spec slice-aggregate-result returns returns-2)
+part-read-spec = tie.close (tie.spec slice-aggregate-result (λ c. search needs) returns-2)

@@ -31,24 +31,6 @@ tested c =
 loop-holds : tie.Need-loop-holds Inv-loop μ-loop
 loop-holds c = (omega arith, omega arith, omega arith)
 
-mul-is-number : tie.Need-mul-is-number Inv-loop μ-loop
-mul-is-number c = search needs
-
-shared-slice-copy-out-is-number : tie.Need-shared-slice-copy-out-is-number Inv-loop μ-loop
-shared-slice-copy-out-is-number c = search needs
-
-is-number-requires : tie.Need-is-number-requires Inv-loop μ-loop
-is-number-requires c κs = search needs
-
-add-count : tie.Need-add-count Inv-loop μ-loop
-add-count c = search needs
-
-add-i : tie.Need-add-i Inv-loop μ-loop
-add-i c = search needs
-
-loop-less : tie.Need-loop-less Inv-loop μ-loop
-loop-less c = search needs
-
 loop-again : tie.Need-loop-again Inv-loop μ-loop
 loop-again c =
     let n = c .before in
@@ -73,11 +55,11 @@ accepted-in-spec =
     Inv-loop
     μ-loop
     loop-holds
-    mul-is-number
-    shared-slice-copy-out-is-number
-    is-number-requires
-    add-count
-    add-i
-    loop-less
+    (λ c. search needs)
+    (λ c. search needs)
+    (λ c κs. search needs)
+    (λ c. search needs)
+    (λ c. search needs)
+    (λ c. search needs)
     loop-again
     returns)

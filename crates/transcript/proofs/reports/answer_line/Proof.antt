@@ -11,18 +11,6 @@ use Rattle.transcript.proofs.Storing.{wrote-as}
 use Rattle.transcript.proofs.reports.answer_line.Statement.{statement}
 use Rattle.transcript.proofs.reports.answer_line.Tie as tie
 
-slice-aggregate-line : tie.Need-slice-aggregate-line
-slice-aggregate-line c = search needs
-
-natural-requires : tie.Need-natural-requires
-natural-requires c κs = search needs
-
-line-requires : tie.Need-line-requires
-line-requires c κs = search needs
-
-same-length : tie.Need-same-length
-same-length c = search needs
-
 returns : tie.Need-returns
 unfolding answerLine
 returns c =
@@ -34,4 +22,4 @@ returns c =
 
 pub answer-line-spec : {M : Type 1} → statement M
 answer-line-spec =
-    tie.close (tie.spec slice-aggregate-line natural-requires line-requires same-length returns)
+    tie.close (tie.spec (λ c. search needs) (λ c κs. search needs) (λ c κs. search needs) (λ c. search needs) returns)

@@ -28,21 +28,6 @@ abbrev μ-loop : tie.MeasureT-loop
 loop-holds : tie.Need-loop-holds Inv-loop μ-loop
 loop-holds c = (omega arith, omega arith, refl, refl, omega arith)
 
-mul-answer-line : tie.Need-mul-answer-line Inv-loop μ-loop
-mul-answer-line c = search needs
-
-shared-slice-copy-out-answer-line : tie.Need-shared-slice-copy-out-answer-line Inv-loop μ-loop
-shared-slice-copy-out-answer-line c = search needs
-
-answer-line-requires : tie.Need-answer-line-requires Inv-loop μ-loop
-answer-line-requires c κs = search needs
-
-add-i : tie.Need-add-i Inv-loop μ-loop
-add-i c = search needs
-
-loop-less : tie.Need-loop-less Inv-loop μ-loop
-loop-less c = search needs
-
 loop-again : tie.Need-loop-again Inv-loop μ-loop
 loop-again c =
     let p = c .before .before in
@@ -77,11 +62,11 @@ answer-lines-spec =
     Inv-loop
     μ-loop
     loop-holds
-    mul-answer-line
-    shared-slice-copy-out-answer-line
-    answer-line-requires
-    add-i
-    loop-less
+    (λ c. search needs)
+    (λ c. search needs)
+    (λ c κs. search needs)
+    (λ c. search needs)
+    (λ c. search needs)
     loop-again
     same-length
     returns)

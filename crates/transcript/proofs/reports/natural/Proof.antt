@@ -19,17 +19,8 @@ told c = c .as-natural .ensures ∙ ap (λ z. asNatural (natural z)) (toZ-ofZ w3
 found : (c : tie.After-n) → c .before .before .before .args .z ≡ pos (c .n .given .0 .0)
 found c = natural-is _ _ (sym (told (c .before .before)) ∙ c .n .given .1)
 
-as-natural-requires : tie.Need-as-natural-requires
-as-natural-requires c κs = search needs
-
-enum-known-n : tie.Need-enum-known-n
-enum-known-n c = search needs
-
 cast-result : tie.Need-cast-result
 cast-result c = let f = subst (SFits w32) (found (c .before)) (c .before .before .before .before .fits .z) in omega (arith, f .sfits)
-
-enum-told : tie.Need-enum-told
-enum-told c = search needs
 
 returns : tie.Need-returns
 unfolding nat
@@ -40,4 +31,4 @@ returns-2 c = sym (nat-not _ (sym (told (c .before .before)) ∙ c .enum-told .g
 
 pub natural-spec : {M : Type 1} → statement M
 natural-spec =
-    tie.close (tie.spec as-natural-requires enum-known-n cast-result enum-told returns returns-2)
+    tie.close (tie.spec (λ c κs. search needs) (λ c. search needs) cast-result (λ c. search needs) returns returns-2)

@@ -5,17 +5,8 @@ use Rattle.transcript.proofs.Reporting.{all-counted}
 use Rattle.transcript.proofs.reports.refused_in.Statement.{statement}
 use Rattle.transcript.proofs.reports.refused_in.Tie as tie
 
-cast-result : tie.Need-cast-result
-cast-result c = search needs
-
-accepted-in-requires : tie.Need-accepted-in-requires
-accepted-in-requires c κs = search needs
-
-sub-result : tie.Need-sub-result
-sub-result c = search needs
-
 returns : tie.Need-returns
 returns c = omega (arith, c .accepted-in .ensures .0, all-counted (c .before .args .answers .now))
 
 pub refused-in-spec : {M : Type 1} → statement M
-refused-in-spec = tie.close (tie.spec cast-result accepted-in-requires sub-result returns)
+refused-in-spec = tie.close (tie.spec (λ c. search needs) (λ c κs. search needs) (λ c. search needs) returns)

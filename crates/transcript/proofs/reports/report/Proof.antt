@@ -20,54 +20,6 @@ objects-shown c = c .natural .ensures ∙ ap nat (handed _ _ (c .before .objects
 calls-shown : (c : tie.After-natural2) → c .natural2 .result ≡ nat (read (c .before .before .before .before .before .before .before .before .before .before .before .before .before .before .before .before .before .before .before .before .before .before .before .before .before .before .before .args .cells .now) calls)
 calls-shown c = c .natural2 .ensures ∙ ap nat (handed _ _ (c .before .calls .ok) (c .before .calls .ensures))
 
-answer-lines-requires : tie.Need-answer-lines-requires
-answer-lines-requires c κs = search needs
-
-slice-aggregate-line : tie.Need-slice-aggregate-line
-slice-aggregate-line c = search needs
-
-accepted-in-requires : tie.Need-accepted-in-requires
-accepted-in-requires c κs = search needs
-
-line-requires : tie.Need-line-requires
-line-requires c κs = search needs
-
-slice-aggregate-line-2 : tie.Need-slice-aggregate-line-2
-slice-aggregate-line-2 c = search needs
-
-refused-in-requires : tie.Need-refused-in-requires
-refused-in-requires c κs = search needs
-
-line-requires-2 : tie.Need-line-requires-2
-line-requires-2 c κs = search needs
-
-slice-aggregate-line-3 : tie.Need-slice-aggregate-line-3
-slice-aggregate-line-3 c = search needs
-
-objects-requires : tie.Need-objects-requires
-objects-requires c κs = search needs
-
-natural-requires : tie.Need-natural-requires
-natural-requires c κs = search needs
-
-line-requires-3 : tie.Need-line-requires-3
-line-requires-3 c κs = search needs
-
-slice-aggregate-line-4 : tie.Need-slice-aggregate-line-4
-slice-aggregate-line-4 c = search needs
-
-calls-requires : tie.Need-calls-requires
-calls-requires c κs = search needs
-
-natural-requires-2 : tie.Need-natural-requires-2
-natural-requires-2 c κs = search needs
-
-line-requires-4 : tie.Need-line-requires-4
-line-requires-4 c κs = search needs
-
-same-length : tie.Need-same-length
-same-length c = search needs
-
 returns : tie.Need-returns
 unfolding report
 returns c =
@@ -88,20 +40,20 @@ pub report-spec : {M : Type 1} → statement M
 report-spec =
     tie.close
     (tie.spec
-    answer-lines-requires
-    slice-aggregate-line
-    accepted-in-requires
-    line-requires
-    slice-aggregate-line-2
-    refused-in-requires
-    line-requires-2
-    slice-aggregate-line-3
-    objects-requires
-    natural-requires
-    line-requires-3
-    slice-aggregate-line-4
-    calls-requires
-    natural-requires-2
-    line-requires-4
-    same-length
+    (λ c κs. search needs)
+    (λ c. search needs)
+    (λ c κs. search needs)
+    (λ c κs. search needs)
+    (λ c. search needs)
+    (λ c κs. search needs)
+    (λ c κs. search needs)
+    (λ c. search needs)
+    (λ c κs. search needs)
+    (λ c κs. search needs)
+    (λ c κs. search needs)
+    (λ c. search needs)
+    (λ c κs. search needs)
+    (λ c κs. search needs)
+    (λ c κs. search needs)
+    (λ c. search needs)
     returns)

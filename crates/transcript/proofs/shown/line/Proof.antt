@@ -6,21 +6,6 @@ use Rattle.transcript.proofs.Storing.{wrote-after}
 use Rattle.transcript.proofs.shown.line.Statement.{statement}
 use Rattle.transcript.proofs.shown.line.Tie as tie
 
-put-requires : tie.Need-put-requires
-put-requires c κs = search needs
-
-number-requires : tie.Need-number-requires
-number-requires c κs = search needs
-
-slice-aggregate-put : tie.Need-slice-aggregate-put
-slice-aggregate-put c = search needs
-
-put-requires-2 : tie.Need-put-requires-2
-put-requires-2 c κs = search needs
-
-same-length : tie.Need-same-length
-same-length c = search needs
-
 returns : tie.Need-returns
 unfolding shownLine
 returns c =
@@ -34,4 +19,4 @@ returns c =
 pub line-spec : {M : Type 1} → statement M
 line-spec =
     tie.close
-    (tie.spec put-requires number-requires slice-aggregate-put put-requires-2 same-length returns)
+    (tie.spec (λ c κs. search needs) (λ c κs. search needs) (λ c. search needs) (λ c κs. search needs) (λ c. search needs) returns)

@@ -23,23 +23,11 @@ abbrev μ-loop : tie.MeasureT-loop
 place : (c : tie.In-loop Inv-loop μ-loop) → 1 ≤ c .before .loop .first
 place c = let l = c .before .loop in a-place (l .left) (l .first) (l .inv .2) (c .loop-test .taken)
 
-sub-first : tie.Need-sub-first Inv-loop μ-loop
-sub-first c = search needs
-
 loop-holds : tie.Need-loop-holds Inv-loop μ-loop
 loop-holds c = (refl, omega arith, omega arith, sym (shown-begun _))
 
-digit-requires : tie.Need-digit-requires Inv-loop μ-loop
-digit-requires c κs = search needs
-
-array-write-digits : tie.Need-array-write-digits Inv-loop μ-loop
-array-write-digits c = search needs
-
 sub-first-2 : tie.Need-sub-first-2 Inv-loop μ-loop
 sub-first-2 c = let p = place (c .before) in omega arith
-
-loop-less : tie.Need-loop-less Inv-loop μ-loop
-loop-less c = search needs
 
 loop-again : tie.Need-loop-again Inv-loop μ-loop
 loop-again c =
@@ -56,26 +44,8 @@ loop-again c =
       ap (shownFrom (suc (l .left / 10)) (l .left / 10)) d ∙ sym (shown-more (l .left) (drop (l .first + 1) (l .digits)) (c .before .loop-test .taken)) ∙ l .inv .3,
     )
 
-digit-requires-2 : tie.Need-digit-requires-2 Inv-loop μ-loop
-digit-requires-2 c κs = search needs
-
-array-write-digits-2 : tie.Need-array-write-digits-2 Inv-loop μ-loop
-array-write-digits-2 c = search needs
-
-sub-put : tie.Need-sub-put Inv-loop μ-loop
-sub-put c = search needs
-
-part-put-start : tie.Need-part-put-start Inv-loop μ-loop
-part-put-start c = search needs
-
 part-put-end : tie.Need-part-put-end Inv-loop μ-loop
 part-put-end c = simp length-set (omega arith)
-
-put-requires : tie.Need-put-requires Inv-loop μ-loop
-put-requires c κs = search needs
-
-same-length : tie.Need-same-length Inv-loop μ-loop
-same-length c = search needs
 
 returns : tie.Need-returns Inv-loop μ-loop
 returns c =
@@ -101,18 +71,18 @@ number-spec =
     (tie.spec
     Inv-loop
     μ-loop
-    sub-first
+    (λ c. search needs)
     loop-holds
-    digit-requires
-    array-write-digits
+    (λ c κs. search needs)
+    (λ c. search needs)
     sub-first-2
-    loop-less
+    (λ c. search needs)
     loop-again
-    digit-requires-2
-    array-write-digits-2
-    sub-put
-    part-put-start
+    (λ c κs. search needs)
+    (λ c. search needs)
+    (λ c. search needs)
+    (λ c. search needs)
     part-put-end
-    put-requires
-    same-length
+    (λ c κs. search needs)
+    (λ c. search needs)
     returns)
