@@ -11,13 +11,13 @@ use lib.ListN.{length, getElem?}
 use Rattle.whole.specs.Lists.{Every}
 use Rattle.whole.specs.Refusals.{textTooLong, brokenLine, wrongKey, wrongCode}
 use Rattle.terms.specs.Bytes.{Text}
-use Rattle.model.specs.Accepted.{AcceptedNew, AcceptedModel}
 use Rattle.text.specs.InOrder.{LinesRead, failed, after}
-use Rattle.model.specs.Judge.{Judged, refusal, model, givenTo, countsJudged, endJudged, judged}
 use Rattle.text.specs.Lines.{Line, terminated, unterminated, grown, lines, lineFeed, sound, longestText}
+use Rattle.text.proofs.Bringing.{Refusing, Along, Brought}
+use Rattle.model.specs.Accepted.{AcceptedNew, AcceptedModel}
+use Rattle.model.specs.Judge.{Judged, refusal, model, givenTo, countsJudged, endJudged, judged}
 use Rattle.model.specs.Model.{Class, Model}
 use Rattle.model.specs.ModelText.{Creation, SoFar, readModel}
-use Rattle.model.proofs.Bringing.{Refusing, Along, Brought}
 use Rattle.model.proofs.CountsOfNew.{given-of}
 use Rattle.model.proofs.ModelTold.{Before, Noted, ModelRead, brings-model}
 

@@ -7,8 +7,8 @@ use native.Mathlib.Omega.{arith}
 use lib.Dec.{eqb}
 use Rattle.layout.specs.Layout.{mostAttributes, mostLocals}
 use Rattle.terms.specs.Bytes.{bytes}
-use Rattle.model.specs.Bounds.{mostClasses, mostMethods, mostParams, mostLines, allLines}
 use Rattle.text.specs.InOrder.{Reader, done, _>>=_, numberLine, each}
+use Rattle.model.specs.Bounds.{mostClasses, mostMethods, mostParams, mostLines, allLines}
 use Rattle.model.specs.Model.{Method, Class, Model}
 use Rattle.model.specs.ModelText.{SoFar, linesBegun, zeroIf, codeLine, readMethod, readClass}
 

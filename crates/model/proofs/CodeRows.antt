@@ -9,11 +9,11 @@ use lib.ListN.{length, set, take, drop, length-take, length-drop}
 use lib.Seq.{getD-set-same, getD-set-other}
 use Rattle.terms.specs.Bytes.{Text}
 use Rattle.terms.specs.Parsed.{got}
+use Rattle.text.specs.InOrder.{right}
 use Rattle.code.specs.Blocks.{Block, shapeOf, through}
 use Rattle.model.specs.declared.MethodHead.{MethodHead}
 use Rattle.model.specs.declared.Row.{Row}
 use Rattle.model.specs.declared.Stated.{Stated}
-use Rattle.text.specs.InOrder.{right}
 use Rattle.model.specs.ModelText.{SoFar, creationsOf, standing}
 use Rattle.model.specs.Vocabulary.Belonging.{valueIn, CodeTold, ShapeTold, LineTold}
 use Rattle.model.specs.Vocabulary.Creations.{creationsIn}

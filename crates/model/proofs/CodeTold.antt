@@ -15,6 +15,8 @@ use Rattle.terms.specs.Bytes.{bytes}
 use Rattle.terms.specs.Parsed.{Parsed, got, bad}
 use Rattle.terms.specs.Trees.{trees, guardTrees}
 use Rattle.terms.proofs.Gives.{Gives}
+use Rattle.text.specs.InOrder.{wrong, right}
+use Rattle.text.proofs.Bringing.{Brings, TakenAs, brings-key, Along, InTurn}
 use Rattle.code.specs.declared.Shape.{Shape}
 use Rattle.code.specs.declared.Shape.the-variants as Shape
 use Rattle.code.specs.Blocks.{Block, isShape, shapeOf, through, throughAll}
@@ -27,9 +29,7 @@ use Rattle.code.proofs.Shapes.{shape-of-number}
 use Rattle.code.proofs.Stacks.{all-nil, all-some}
 use Rattle.model.specs.Accepted.{AcceptedBlocks}
 use Rattle.model.specs.Bounds.{deepest}
-use Rattle.text.specs.InOrder.{wrong, right}
 use Rattle.model.specs.ModelText.{SoFar, creationsOf, mayStand, standing, codeLine}
-use Rattle.model.proofs.Bringing.{Brings, TakenAs, brings-key, Along, InTurn}
 
 -- a code line read, where so many stand in its method: what it tells by itself, and how it changes what is carried
 pub record LineRead (last : ℕ) (lim : Limits) (classes count i : ℕ) (so : SoFar) (c : Code) (t : SoFar) : Type 0 where

@@ -14,6 +14,7 @@ use Rattle.terms.specs.Bytes.{Text}
 use Rattle.terms.specs.declared.Around.{Around}
 use Rattle.terms.specs.Parsed.{got, bad}
 use Rattle.terms.specs.Trees.{trees, guardTrees}
+use Rattle.text.specs.InOrder.{Taken, wrong, right}
 use Rattle.code.specs.declared.ReadCode.{ReadCode}
 use Rattle.code.specs.declared.ReadStatement.the-variants as Read
 use Rattle.code.specs.declared.Shape.the-variants as Shape
@@ -30,7 +31,6 @@ use Rattle.code.proofs.Told.{Told, told-bad, told-got}
 use Rattle.model.specs.declared.CodeFound.the-variants as Found
 use Rattle.model.specs.declared.MethodHead.{MethodHead}
 use Rattle.model.specs.declared.Stated.{Stated}
-use Rattle.text.specs.InOrder.{Taken, wrong, right}
 use Rattle.model.specs.ModelText.{SoFar, creationsOf, mayStand, standing}
 use Rattle.model.specs.Vocabulary.Creations.{newNumber}
 use Rattle.model.specs.Vocabulary.Standing.{stood, limitsOf, valueTaken, CodeSaid}

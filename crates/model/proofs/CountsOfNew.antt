@@ -10,6 +10,7 @@ use native.Mathlib.Omega.{arith}
 use lib.Dec.{eqb}
 use lib.ListN.{length, getElem?}
 use Rattle.whole.specs.Refusals.{accepted, wrongCode}
+use Rattle.text.specs.declared.Verdict.{Verdict}
 use Rattle.code.specs.Statements.{newOf, Code}
 use Rattle.model.specs.Vocabulary.Creations.{creationTold, creationsFrom, newFits, GivenTold, newNumber, creationsIn}
 use Rattle.model.specs.Judge.{givenTo, countsJudged, model, refusal, verdictOf}
@@ -17,7 +18,6 @@ use Rattle.model.specs.Model.{Class, Model}
 use Rattle.model.specs.ModelText.{Creation, creationsOf}
 use Rattle.model.specs.Vocabulary.Table.{Table, rowAt, classRow, codeRow}
 use Rattle.model.specs.declared.Row.{Row}
-use Rattle.text.specs.declared.Verdict.{Verdict}
 use Rattle.model.proofs.TableRows.{item-at, item-past, each-at}
 
 module _ (m : Model) (k : ℕ) where

@@ -3,7 +3,6 @@ mod Cases
 mod TextBounds
 pub mod AcceptedAt
 pub mod AcceptedJudged
-pub mod Bringing
 pub mod Chains
 pub mod CodeRows
 pub mod CodeTold

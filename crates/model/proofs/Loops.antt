@@ -1,100 +1,34 @@
--- So many of a thing, read one after another while the table is filled: what is left to read decides. Assumes nothing.
-use Prim.Native.Nat.{ℕ, suc, _+_, _-_, _≤_, _<_}
+-- So many of a thing, read one after another while the table is filled. Assumes nothing.
+use Prim.Native.Nat.{ℕ, _+_, _-_, _≤_, _<_}
 use mathlib.Core.Bool.{true}
-use mathlib.Core.List.{List, [], _∷_, _++_, append-nil, append-assoc}
-use mathlib.Core.Path.{_≡_, refl, sym, ap, subst, _∙_}
-use native.Mathlib.Nat.{add-zero, sub-zero}
+use mathlib.Core.List.{List, [], _∷_, _++_}
+use mathlib.Core.Path.{_≡_, refl, ap, subst, _∙_}
+use native.Mathlib.Nat.{add-zero}
 use native.Mathlib.Omega.{arith}
 use borrow.Author.Tests.{eq-eqb}
-use lib.ListN.{length, drop}
+use lib.ListN.{length}
 use Rattle.whole.specs.Lists.{EachFrom}
 use Rattle.terms.specs.Bytes.{Text}
+use Rattle.text.specs.declared.At.{At}
+use Rattle.text.specs.declared.Read.{Read}
+use Rattle.text.specs.declared.Read.the-variants as Read
+use Rattle.text.specs.InOrder.{Reader, each}
+use Rattle.text.specs.Vocabulary.Readings.{Placed, readAt, Tells}
+use Rattle.text.proofs.Onward.{told-got}
+use Rattle.text.proofs.SoMany.{Passed, passed-none, passed-onward, passed-all}
 use Rattle.code.specs.Blocks.{Block}
 use Rattle.code.specs.Statements.{Code}
 use Rattle.code.specs.Vocabulary.OpenBlocks.{packedBlocks}
 use Rattle.code.proofs.OpenBlocks.{packed-fits}
-use Rattle.text.specs.declared.At.{At}
 use Rattle.model.specs.declared.MethodHead.{MethodHead}
-use Rattle.text.specs.declared.Read.{Read}
-use Rattle.text.specs.declared.Read.the-variants as Read
-use Rattle.text.specs.declared.Verdict.{Verdict}
-use Rattle.text.specs.InOrder.{LinesRead, failed, after, Reader, done, _>>=_, each}
-use Rattle.text.specs.Lines.{Line, lines}
 use Rattle.model.specs.ModelText.{SoFar, mayStand, codeLine}
 use Rattle.model.specs.Vocabulary.Belonging.{LineTold}
-use Rattle.text.specs.Vocabulary.Readings.{Placed, readAt, Tells}
 use Rattle.model.specs.Vocabulary.Leaving.{soFar, between, LineLeft, Left, CodeLeft}
 use Rattle.model.specs.Vocabulary.Standing.{limitsOf}
 use Rattle.model.specs.Vocabulary.Table.{Table, Same}
 use Rattle.model.proofs.CodeTold.{may-depth, may-last}
 use Rattle.model.proofs.Framing.{same-self, same-then, line-kept}
-use Rattle.text.proofs.Onward.{then-failed, then-after, told-got}
 use Rattle.model.proofs.TableRows.{append-length, each-more}
-
--- things read before others
-unfoldable pub onto : {A S : Type 0} → List A → LinesRead (List A × S) → LinesRead (List A × S)
-onto xs (failed v) = failed v
-onto xs (after r at ls) = after (xs ++ r .0, r .1) at ls
-
-onto-none : {A S : Type 0} (x : LinesRead (List A × S)) → onto [] x ≡ x
-onto-none (failed v) = unfold onto in refl
-onto-none (after r at ls) = unfold onto in refl
-
--- one more of them
-onto-more : {A S : Type 0} (xs : List A) (x : A) (later : Reader (List A × S)) (at : ℕ) (ls : List Line)
-    → onto xs ((later >>= (λ r. done (x ∷ r .0, r .1))) at ls) ≡ onto (xs ++ (x ∷ [])) (later at ls)
-unfolding _>>=_ onto done
-onto-more {A} {S} xs x later at ls = go (later at ls)
-  where
-    go : (y : LinesRead (List A × S)) → onto xs (elim y [ failed v ↦ failed v | after r n l ↦ after (x ∷ r .0, r .1) n l ]) ≡ onto (xs ++ (x ∷ [])) y
-    go (failed v) = refl
-    go (after r n l) = rw append-assoc
-
--- so many of a thing are passed, from a place to another: what is left to read, with what is carried, and what is held of those passed
-pub record Passed {A : Type 0} (s : Text) (one : ℕ → SoFar → Reader (A × SoFar)) (count : ℕ) (begun : SoFar) (from here : At) (i : ℕ) (so : SoFar)
-    (Held : List A → Type 0) : Type 0 where
-  pub items : List A
-  pub rest : readAt (each count 0 begun one) s from ≡ onto items (readAt (each (count - i) i so one) s here)
-  pub within : i ≤ count
-  pub placed : Placed s here
-  pub held : Held items
-
--- none yet
-pub passed-none : {A : Type 0} {s : Text} {one : ℕ → SoFar → Reader (A × SoFar)} {count : ℕ} {so : SoFar} {from : At} {Held : List A → Type 0}
-    → Placed s from → Held [] → Passed s one count so from from 0 so Held
-passed-none {s = s} {one} {count} {so} {from} placed held = record { items = []; rest = sym (onto-none _ ∙ ap (λ m. readAt (each m 0 so one) s from) (sub-zero count)); within = omega arith; placed = placed; held = held }
-
-module _ {A : Type 0} {s : Text} {one : ℕ → SoFar → Reader (A × SoFar)} {count : ℕ} {begun : SoFar} {from here : At} {i : ℕ} {so : SoFar} {Held : List A → Type 0}
-    (p : Passed s one count begun from here i so Held) where
-  one-more : i < count → count - i ≡ suc (count - (i + 1))
-  one-more more = omega arith
-
-  -- the next one is refused
-  pub passed-stopped : i < count → {w : Verdict} → readAt (one i so) s here ≡ failed w → readAt (each count 0 begun one) s from ≡ failed w
-  unfolding each onto
-  passed-stopped more e = p .rest ∙ rw (one-more more) (ap (onto (p .items)) (then-failed (one i so) _ _ _ _ e))
-
-  -- or it is read
-  pub passed-onward : i < count → (a : A × SoFar) (q : At) → readAt (one i so) s here ≡ after a (q .line) (lines (drop (q .place) s)) → Placed s q
-      → {so' : SoFar} → a .1 ≡ so' → {Later : List A → Type 0} → Later (p .items ++ (a .0 ∷ [])) → Passed s one count begun from q (i + 1) so' Later
-  unfolding each
-  passed-onward more a q e placed carried held = record {
-    items = p .items ++ (a .0 ∷ []);
-    rest =
-        p .rest
-        ∙ rw (one-more more) (ap (onto (p .items)) (then-after (one i so) _ _ _ a _ _ e) ∙ onto-more (p .items) (a .0) (each (count - (i + 1)) (i + 1) (a .1) one) _ _)
-        ∙ ap (λ so. onto (p .items ++ (a .0 ∷ [])) (readAt (each (count - (i + 1)) (i + 1) so one) s q)) carried;
-    within = omega arith;
-    placed = placed;
-    held = held;
-  }
-
-  -- all of them
-  pub passed-all : count ≤ i → (Q : List A × SoFar → ℕ → Type 0) (n : ℕ) → (i ≡ count → Q (p .items, so) n) → Tells s Q (Read.Got n here) (readAt (each count 0 begun one) s from)
-  unfolding Tells onto each done
-  passed-all h Q n told =
-      let z : count - i ≡ 0 = omega arith in
-      ((p .items, so), p .rest ∙ rw (z, append-nil) refl, p .placed, told (omega (arith, p .within)))
 
 -- what a longer reading leaves of so many items, each told with its index, and of one more
 pub left-more : {A : Type 0} {s : Text} {t u v : Table} {x y z : List ℕ} (P : Table → List ℕ → ℕ → ℕ → A → Type 0) {k m i j total all n d : ℕ} {xs : List A} {so : SoFar} {a : A × SoFar}

@@ -12,6 +12,7 @@ use Rattle.whole.specs.Lists.{Every, EachFrom, totalOf}
 use Rattle.layout.specs.Layout.{mostAttributes, mostLocals}
 use Rattle.terms.specs.Bytes.{bytes}
 use Rattle.terms.specs.declared.Limits.{Limits}
+use Rattle.text.proofs.Bringing.{Brings, brings-done, brings-then, brings-so, brings-number, Along, brings-each, turn-each, turn-keeps, turn-back, turn-total}
 use Rattle.code.specs.Statements.{Code, newOf}
 use Rattle.code.specs.Within.{CodeWithin}
 use Rattle.code.proofs.Stacks.{false-true}
@@ -20,7 +21,6 @@ use Rattle.model.specs.Bounds.{edition, mostClasses, mostMethods, mostPa
 use Rattle.model.specs.Model.{Method, Class, Model}
 use Rattle.model.specs.ModelText.{Creation, SoFar, creationsOf, linesBegun, zeroIf, readMethod, readClass, readModel}
 use Rattle.model.proofs.CodeTold.{LineRead, brings-code, lines-accepted}
-use Rattle.model.proofs.Bringing.{Brings, brings-done, brings-then, brings-so, brings-number, Along, brings-each, turn-each, turn-keeps, turn-back, turn-total}
 
 -- a range that may be narrowed to 0 is no wider
 zero-most : (b : Bool) (n x : ℕ) → x ≤ zeroIf b n → x ≤ n

@@ -11,22 +11,22 @@ use Rattle.whole.specs.Lists.{EachFrom}
 use Rattle.whole.specs.Refusals.{textTooLong, brokenLine, wrongKey}
 use Rattle.terms.specs.Bytes.{Text, byteAt}
 use Rattle.terms.specs.declared.Limits.{Limits}
-use Rattle.code.specs.Statements.{Code}
 use Rattle.text.specs.declared.At.{At}
 use Rattle.text.specs.declared.Verdict.{Verdict}
-use Rattle.model.specs.Bounds.{allLines}
 use Rattle.text.specs.InOrder.{failed, after}
-use Rattle.model.specs.Judge.{Judged, refusal, model, countsJudged, endJudged, judged, verdictOf, judge}
 use Rattle.text.specs.Lines.{Line, lines, sound, longestText}
+use Rattle.text.specs.Vocabulary.Readings.{readAt, lowestOf, fault, begin}
+use Rattle.text.proofs.Cutting.{line-none, lines-some}
+use Rattle.code.specs.Statements.{Code}
+use Rattle.model.specs.Bounds.{allLines}
+use Rattle.model.specs.Judge.{Judged, refusal, model, countsJudged, endJudged, judged, verdictOf, judge}
 use Rattle.model.specs.Model.{Class, Model}
 use Rattle.model.specs.ModelText.{SoFar, readModel}
 use Rattle.model.specs.Vocabulary.Belonging.{LineTold, ClassTold, Belongs, Shaped}
 use Rattle.model.specs.Vocabulary.Creations.{GivenTold}
-use Rattle.text.specs.Vocabulary.Readings.{readAt, lowestOf, fault, begin}
 use Rattle.model.specs.Vocabulary.Table.{Table, rowAt, classRow, classesIn}
 use Rattle.model.proofs.AcceptedJudged.{Ends, text-ends}
 use Rattle.model.proofs.CountsOfNew.{verdict-refusal}
-use Rattle.text.proofs.Cutting.{line-none, lines-some}
 use Rattle.model.proofs.Framing.{same-self, class-kept}
 use Rattle.model.proofs.TableRows.{each-keep}
 

@@ -11,12 +11,12 @@ use Rattle.terms.specs.Bytes.{bytes}
 use Rattle.terms.specs.declared.Limits.{Limits}
 use Rattle.terms.specs.Parsed.{got, bad}
 use Rattle.terms.specs.Trees.{trees, guardTrees}
+use Rattle.text.specs.InOrder.{Reader, done, _>>=_, Taken, wrong, right, keyLine, numberLine, each}
 use Rattle.code.specs.declared.Shape.the-variants as Shape
 use Rattle.code.specs.Blocks.{Block, isShape, shapeOf, through}
 use Rattle.code.specs.Reader.{statement}
 use Rattle.code.specs.Statements.{Code, newOf}
 use Rattle.model.specs.Bounds.{edition, mostClasses, mostMethods, mostParams, mostLines, allLines, deepest}
-use Rattle.text.specs.InOrder.{Reader, done, _>>=_, Taken, wrong, right, keyLine, numberLine, each}
 use Rattle.model.specs.Model.{Method, Class, Model}
 
 -- a `new` with the line that it stands at

@@ -9,8 +9,8 @@ use text::Read;
 use text::key_lines;
 ghost use Prim.Native.Nat.{_≤_, _<_};
 ghost use Rattle.text.specs.InOrder as InOrder;
-ghost use Rattle.model.specs.ModelText as ModelText;
 ghost use Rattle.text.specs.Vocabulary.Readings as Readings;
+ghost use Rattle.model.specs.ModelText as ModelText;
 ghost use Rattle.model.specs.Vocabulary.Leaving as Leaving;
 ghost use Rattle.model.specs.Vocabulary.Table as Table;
 

@@ -13,13 +13,13 @@ ghost use mathlib.Core.Path.{_≡_};
 ghost use Prim.Native.Nat.{_≤_};
 ghost use lib.ListN.{length, drop};
 ghost use Rattle.text.specs.InOrder as InOrder;
-ghost use Rattle.model.specs.Judge as Judge;
 ghost use Rattle.text.specs.Lines as Lines;
+ghost use Rattle.text.specs.Vocabulary.Readings as Readings;
+ghost use Rattle.model.specs.Judge as Judge;
 ghost use Rattle.model.specs.Model.{Model};
 ghost use Rattle.model.specs.ModelText as ModelText;
 ghost use Rattle.model.specs.Vocabulary.Belonging as Belonging;
 ghost use Rattle.model.specs.Vocabulary.Creations as Creations;
-ghost use Rattle.text.specs.Vocabulary.Readings as Readings;
 ghost use Rattle.model.specs.Vocabulary.Leaving as Leaving;
 ghost use Rattle.model.specs.Vocabulary.Table as Table;
 

@@ -9,8 +9,8 @@ use borrow.Author.Tests.{le-leb, lt-leb, leb-true}
 use lib.Dec.{leb}
 use lib.ListN.{length, take, drop, length-drop}
 use lib.Seq.{take-suc, take-add, drop-drop, getD-drop}
-use Rattle.terms.specs.Bytes.{Text, byteAt}
 use Rattle.whole.proofs.Both.{both-left, both-right}
+use Rattle.terms.specs.Bytes.{Text, byteAt}
 use Rattle.text.specs.Lines.{plainByte, plainBytes, lineFeed}
 
 -- a byte by its two bounds

@@ -1,6 +1,6 @@
 -- What the walks of the reader's functions share. Each function has one lifetime, and all that it is passed is Copy, so what its parameters own is had
 -- twice: it is kept whole for the exit, and in a copy it serves what is called or made.
---     Passed           a parameter's type with its laws: `reader`, `bytes`, `word`.        placed, bounds, values       lists of them, and their machine values
+--     Parameter        a parameter's type with its laws: `reader`, `bytes`, `word`.        placed, bounds, values       lists of them, and their machine values
 --     Walk, met        what a walk shows, and that the function then meets its contract.        calls-known     a call of a function that meets its own
 --     and-local, dies, exits       an operand that is a local; a local's end; the exit
 --     opens            `line` and `number`: the struct is opened into its fields, which the callee is passed
@@ -58,7 +58,7 @@ of-made P {text} {at} r e p = subst (P (r .text)) (sym (e .1)) (subst (λ (x : R
 
 -- ---- the parameters
 -- a parameter's type over the lifetime, and its machine values; nothing is said of it at exit; it is Copy, and its values are of its MIR type
-pub record Passed : Type 2 where
+pub record Parameter : Type 2 where
   pub row : Lfts 1 → RattleType
   pub vals : (κs : Lfts 1) → row κs .Denot → List Val
   pub tells : (κs : Lfts 1) → Tells (row κs) (Is (row κs)) (vals κs)
@@ -74,7 +74,7 @@ abbrev erasure : Lfts 1 → NamedLft
 erasure κs = record { mir = erased; lft = κs .0 }
 
 -- the struct; a slice of bytes; and a number of some width
-abbrev pub reader : Passed
+abbrev pub reader : Parameter
 reader = record {
   row = λ κs. T.the-row (lifetime κs);
   vals = λ κs. LL.vals (T.the-type (lifetime κs)) (T′.the-laws (lifetime κs));
@@ -84,7 +84,7 @@ reader = record {
   lawful = λ 𝓤 H A W κs. LL.lawful (T.the-type (lifetime κs)) (T′.the-laws (lifetime κs)) 𝓤 H A W;
 }
 
-abbrev bytes : Passed
+abbrev bytes : Parameter
 bytes = record {
   row = λ κs. ShrSlice (named 0) (κs .0) u8;
   vals = λ κs. slice-vals;
@@ -94,7 +94,7 @@ bytes = record {
   lawful = λ 𝓤 H A W κs. shr-slice-lawful 𝓤 H A W (named 0) (κs .0) u8;
 }
 
-abbrev word : Width → Passed
+abbrev word : Width → Parameter
 word w = record {
   row = λ κs. UInt w;
   vals = λ κs. uint-vals w;
@@ -105,62 +105,62 @@ word w = record {
 }
 
 -- a text and a place in it, before other parameters; and the other parameters of `number` and `number_at`
-abbrev pub placed : List Passed → List Passed
+abbrev pub placed : List Parameter → List Parameter
 placed ps = bytes ∷ word w64 ∷ ps
 
-abbrev pub bounds : List Passed
+abbrev pub bounds : List Parameter
 bounds = word w32 ∷ word w32 ∷ []
 
 -- of a list of parameters: the slots, what is kept of each, what is had of each at exit, their types, their machine values and the laws
-abbrev slots : List Passed → List (Slot 1)
+abbrev slots : List Parameter → List (Slot 1)
 slots [] = []
 slots (p ∷ ps) = plain (p .row) ∷ slots ps
 
-abbrev keeps : (ps : List Passed) → Kepts (slots ps)
+abbrev keeps : (ps : List Parameter) → Kepts (slots ps)
 keeps [] = tt
 keeps (p ∷ ps) = (yes, keeps ps)
 
-abbrev stays : (ps : List Passed) → Stays (slots ps) (keeps ps)
+abbrev stays : (ps : List Parameter) → Stays (slots ps) (keeps ps)
 stays [] = tt
 stays (p ∷ ps) = (stay-none (p .row) yes, stays ps)
 
-abbrev rows : List Passed → Lfts 1 → List RattleType
+abbrev rows : List Parameter → Lfts 1 → List RattleType
 rows ps κs = typesAt (slots ps) κs
 
 module _ (κs : Lfts 1) where
-  abbrev spells : (ps : List Passed) → Spells (rows ps κs)
+  abbrev spells : (ps : List Parameter) → Spells (rows ps κs)
   spells [] = tt
   spells (p ∷ ps) = (p .vals κs, spells ps)
 
-  tellings : (ps : List Passed) → Tellss (rows ps κs) (Ises (rows ps κs)) (spells ps)
+  tellings : (ps : List Parameter) → Tellss (rows ps κs) (Ises (rows ps κs)) (spells ps)
   tellings [] = tt
   tellings (p ∷ ps) = (p .tells κs, tellings ps)
 
-  abbrev pub values : (ps : List Passed) → Denots (rows ps κs) → Valss (rows ps κs)
+  abbrev pub values : (ps : List Parameter) → Denots (rows ps κs) → Valss (rows ps κs)
   values ps = valss (rows ps κs) (spells ps)
 
   -- what the parameters own, at their machine values
-  abbrev Own : (ps : List Passed) → Denots (rows ps κs) → Fml
+  abbrev Own : (ps : List Parameter) → Denots (rows ps κs) → Fml
   Own ps x = owns (rows ps κs) x (values ps x)
 
 module _ {M : Type 1} (𝓤 : URA M) (H : Heap 𝓤) (A : Atoms 𝓤) (W : Given 𝓤 H A) where
-  goings : (ps : List Passed) → AllGo 𝓤 H A W 1 (slots ps) (keeps ps) (stays ps)
+  goings : (ps : List Parameter) → AllGo 𝓤 H A W 1 (slots ps) (keeps ps) (stays ps)
   goings [] = tt
   goings (p ∷ ps) = (goes-none 𝓤 H A W 1 (p .row) yes (p .silent), goings ps)
 
-  copies : (ps : List Passed) (κs : Lfts 1) → Copies 𝓤 H A (rows ps κs)
+  copies : (ps : List Parameter) (κs : Lfts 1) → Copies 𝓤 H A (rows ps κs)
   copies [] κs = tt
   copies (p ∷ ps) κs = (p .copied 𝓤 H A W κs, copies ps κs)
 
-  lawfuls : (ps : List Passed) (κs : Lfts 1) → Lawfuls 𝓤 H A (rows ps κs)
+  lawfuls : (ps : List Parameter) (κs : Lfts 1) → Lawfuls 𝓤 H A (rows ps κs)
   lawfuls [] κs = tt
   lawfuls (p ∷ ps) κs = (p .lawful 𝓤 H A W κs, lawfuls ps κs)
 
 -- the signature of these parameters and a result
-abbrev ends-with : List Passed → Slot 1 → Ended
+abbrev ends-with : List Parameter → Slot 1 → Ended
 ends-with ps s = record { signature = record { lifetimes = 1; outlives = []; params = slots ps; result = s }; kept = keeps ps }
 
-module _ {M : Type 1} (𝓤 : URA M) (H : Heap 𝓤) (A : Atoms 𝓤) (ps : List Passed) where
+module _ {M : Type 1} (𝓤 : URA M) (H : Heap 𝓤) (A : Atoms 𝓤) (ps : List Parameter) where
   -- what a callee asks, at machine values vs: the lifetime's token, what the parameters own, and R, which is required
   abbrev Asked : (κs : Lfts 1) → Shares 1 → (x : Denots (rows ps κs)) → Valss (rows ps κs) → SProp 𝓤 → SProp 𝓤
   Asked κs qs x vs R = sep 𝓤 (sep 𝓤 (toks 𝓤 A 1 κs qs) (sem 𝓤 H A (owns (rows ps κs) x vs))) R
@@ -171,7 +171,7 @@ module _ {M : Type 1} (𝓤 : URA M) (H : Heap 𝓤) (A : Atoms 𝓤) (ps : List
 
 -- ---- what a walk shows, and what is known of a callee
 module _ {M : Type 1} (𝓤 : URA M) (H : Heap 𝓤) (𝓜 : Model 𝓤 H) (𝓖 : GhostRules 𝓤 H) (𝓡 : Running 𝓤 H 𝓜) (γ : Meanings)
-    (ps : List Passed) {s : Slot 1} (clauses : Atoms 𝓤 → (Memory → SProp 𝓤) → (Routine → Fun 𝓤) → Clauses 𝓤 (ends-with ps s)) where
+    (ps : List Parameter) {s : Slot 1} (clauses : Atoms 𝓤 → (Memory → SProp 𝓤) → (Routine → Fun 𝓤) → Clauses 𝓤 (ends-with ps s)) where
   -- the laws at hand, the tables of calls and of loops, and the contract that the clauses make
   abbrev W : Given 𝓤 H (𝓖 .A)
   W = givenOf 𝓤 H 𝓜 𝓖
@@ -233,7 +233,7 @@ module _ {M : Type 1} {𝓤 : URA M} {H : Heap 𝓤} {A : Atoms 𝓤} {K : Type 
   dies t = step (λ s. forget t 0 refl $ free1 t $ s)
 
   -- the exit: the result, with what is ensured of it, the token and what the parameters own
-  pub exits : K → (ps : List Passed) {s : Slot 1} (c : Clauses 𝓤 (ends-with ps s)) (κs : Lfts 1) (qs : Shares 1) (x : Denots (rows ps κs)) (g : c κs x .ghost)
+  pub exits : K → (ps : List Parameter) {s : Slot 1} (c : Clauses 𝓤 (ends-with ps s)) (κs : Lfts 1) (qs : Shares 1) (x : Denots (rows ps κs)) (g : c κs x .ghost)
       (ws : Lasts (ends-with ps s) κs x) → Fit (ends-with ps s) (stays ps) κs x ws → (r : typeAt s κs .Denot) {u : Val}
       → ent 𝓤 (emp 𝓤) (c κs x .ensures g r (atExit (ends-with ps s) κs x ws))
       → Seq K W (‵ (typeAt s κs .own r (u ∷ [])) ∷ raw (toks 𝓤 A 1 κs qs) ∷ ‵ (hasOf κs (slots ps) (keeps ps) (stays ps) x ws (values κs ps x)) ∷ [])
@@ -244,17 +244,17 @@ module _ {M : Type 1} {𝓤 : URA M} {H : Heap 𝓤} {A : Atoms 𝓤} {K : Type 
 
   module _ {Γ : List (Item 𝓤)} {G : Goal 𝓤 H} where
     -- the token, and what is owned, are what a callee asks that requires R
-    asks : K → (ps : List Passed) (κs : Lfts 1) (qs : Shares 1) (x : Denots (rows ps κs)) (vs : Valss (rows ps κs)) (R : SProp 𝓤) → ent 𝓤 (emp 𝓤) R
+    asks : K → (ps : List Parameter) (κs : Lfts 1) (qs : Shares 1) (x : Denots (rows ps κs)) (vs : Valss (rows ps κs)) (R : SProp 𝓤) → ent 𝓤 (emp 𝓤) R
         → Step K W (raw (Asked 𝓤 H A ps κs qs x vs R) ∷ Γ) G (raw (toks 𝓤 A 1 κs qs) ∷ ‵ (owns (rows ps κs) x vs) ∷ Γ) G
     asks t ps κs qs x vs R h = step (λ s. join t $ use0 W (raw R) h $ move t (1 ∷ 0 ∷ []) $ join t $ use1 W (raw (Asked 𝓤 H A ps κs qs x vs R)) (id⊢ 𝓤 _) $ s)
 
     -- what the parameters own is had twice
-    twice : K → (ps : List Passed) (κs : Lfts 1) (x : Denots (rows ps κs)) → Step K W (‵ (Own κs ps x) ∷ ‵ (Own κs ps x) ∷ Γ) G (‵ (Own κs ps x) ∷ Γ) G
+    twice : K → (ps : List Parameter) (κs : Lfts 1) (x : Denots (rows ps κs)) → Step K W (‵ (Own κs ps x) ∷ ‵ (Own κs ps x) ∷ Γ) G (‵ (Own κs ps x) ∷ Γ) G
     twice t ps κs x = step (λ s. use1 W (‵ (Own κs ps x) ⊛ ‵ (Own κs ps x)) (twices 𝓤 H A W (rows ps κs) (copies 𝓤 H A W ps κs) x (values κs ps x)) $ split t $ s)
 
   module _ {Γ : List (Item 𝓤)} {G : Goal 𝓤 H} where
     -- in a copy of what the parameters own the struct is opened into its fields, and these with the other parameters ps are what a callee asks
-    pub opens : K → (ps : List Passed) (κs : Lfts 1) (qs : Shares 1) (d : Reader) (x : Denots (rows ps κs)) (R : SProp 𝓤) → ent 𝓤 (emp 𝓤) R
+    pub opens : K → (ps : List Parameter) (κs : Lfts 1) (qs : Shares 1) (d : Reader) (x : Denots (rows ps κs)) (R : SProp 𝓤) → ent 𝓤 (emp 𝓤) R
         → Step K W (raw (Asked 𝓤 H A (placed ps) κs qs (d .text, (d .at, x)) (values κs (placed ps) (d .text, (d .at, x))) R) ∷ ‵ (Own κs (reader ∷ ps) (d, x)) ∷ Γ) G
         (raw (toks 𝓤 A 1 κs qs) ∷ ‵ (Own κs (reader ∷ ps) (d, x)) ∷ Γ) G
     opens t ps κs qs d x R h = step (λ s. move t (1 ∷ []) $ twice t (reader ∷ ps) κs (d, x) $ fsplit t $
@@ -273,7 +273,7 @@ module _ {M : Type 1} {𝓤 : URA M} {H : Heap 𝓤} {A : Atoms 𝓤} {K : Type 
         move t (0 ∷ 2 ∷ 1 ∷ []) $ s)
 
     -- in a copy of what the parameters own the slice and the place are what `reader_at` asks
-    pub makes : K → (ps : List Passed) (κs : Lfts 1) (qs : Shares 1) (text : RefT (List ℕ)) (at : ℕ) (x : Denots (rows ps κs))
+    pub makes : K → (ps : List Parameter) (κs : Lfts 1) (qs : Shares 1) (text : RefT (List ℕ)) (at : ℕ) (x : Denots (rows ps κs))
         → Step K W (raw (Asked 𝓤 H A (placed []) κs qs (text, (at, tt)) (values κs (placed []) (text, (at, tt))) (emp 𝓤)) ∷ ‵ (Own κs (placed ps) (text, (at, x))) ∷ Γ) G
         (raw (toks 𝓤 A 1 κs qs) ∷ ‵ (Own κs (placed ps) (text, (at, x))) ∷ Γ) G
     makes t ps κs qs text at x = step (λ s. move t (1 ∷ []) $ twice t (placed ps) κs (text, (at, x)) $ fsplit3 t $
@@ -282,7 +282,7 @@ module _ {M : Type 1} {𝓤 : URA M} {H : Heap 𝓤} {A : Atoms 𝓤} {K : Type 
         asks t (placed []) κs qs (text, (at, tt)) _ (emp 𝓤) (id⊢ 𝓤 (emp 𝓤)) $ s)
 
     -- the struct that was made, with the machine value u, and the other parameters of a copy are what the second callee asks
-    pub hands : K → (ps : List Passed) (κs : Lfts 1) (qs : Shares 1) (text : RefT (List ℕ)) (at : ℕ) (x : Denots (rows ps κs)) (r : Reader) (u : Val) (R : SProp 𝓤)
+    pub hands : K → (ps : List Parameter) (κs : Lfts 1) (qs : Shares 1) (text : RefT (List ℕ)) (at : ℕ) (x : Denots (rows ps κs)) (r : Reader) (u : Val) (R : SProp 𝓤)
         → ent 𝓤 (emp 𝓤) R → Step K W (raw (Asked 𝓤 H A (reader ∷ ps) κs qs (r, x) (u ∷ [], values κs ps x) R) ∷ ‵ (Own κs (placed ps) (text, (at, x))) ∷ Γ) G
         (‵ (reader .row κs .own r (u ∷ [])) ∷ raw (toks 𝓤 A 1 κs qs) ∷ ‵ (Own κs (placed ps) (text, (at, x))) ∷ Γ) G
     hands t ps κs qs text at x r u R h = step (λ s. move t (2 ∷ []) $ twice t (placed ps) κs (text, (at, x)) $ fsplit3 t $ drop t $ drop t $

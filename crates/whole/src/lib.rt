@@ -17,8 +17,8 @@ pub enum Operator {
     Equal,
 }
 
-// What working an expression out gives. What is none stands first, as in `OperatorFound` and `ReadValue`: long expressions are read in a
-// twentieth less time so than with it last.
+// What working an expression out gives. What is none stands first, as in `OperatorFound` and `ReadValue`: with it last, a text of every
+// statement was judged in a twentieth more time.
 pub enum Worked {
     OutOfRange,
     Value(i32),

@@ -47,11 +47,11 @@ use Rattle.text.proofs.Verdict.Laws as verdict-laws
 use Rattle.rules.specs.declared.Choice.{Choice}
 use Rattle.rules.proofs.Choice as choice
 use Rattle.engine.specs.Entries as Entries
-use Rattle.creol.specs.Vocabulary.Packed.{packed}
 use Rattle.entries.proofs.running.run as running
 use Rattle.entries.proofs.running.run.Symbol as running-def
 use Rattle.entries.proofs.running.run.Symbol.{name as #entries·running·run}
 use Rattle.entries.proofs.running.run.Met as running-thm
+use Rattle.creol.specs.Vocabulary.Packed.{packed}
 use Rattle.creol.proofs.packed as packing
 use Rattle.creol.proofs.packed.Symbol as packing-def
 use Rattle.creol.proofs.packed.Symbol.{name as #creol·packed}

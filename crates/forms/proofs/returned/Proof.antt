@@ -2,10 +2,10 @@
 use borrow.Author.Needs.{needs}
 use denote.Ref.{now}
 use mathlib.Core.Path.{refl, ap, _∙_}
+use Rattle.whole.proofs.Ranges.{handed}
 use Rattle.layout.specs.Layout.{written, toCall, value}
 use Rattle.layout.specs.Stages.{staged}
 use Rattle.rules.specs.Exec as Exec
-use Rattle.whole.proofs.Ranges.{handed}
 use Rattle.forms.proofs.Written.{all-written, then, staged-then, worked-out, did-not-fit}
 use Rattle.forms.proofs.returned.Statement.{statement}
 use Rattle.forms.proofs.returned.Tie as tie

@@ -2,8 +2,8 @@
 use borrow.Author.Needs.{needs}
 use denote.Ref.{now}
 use mathlib.Core.Path.{refl}
-use Rattle.rules.specs.Exec as Exec
 use Rattle.whole.proofs.Ranges.{handed}
+use Rattle.rules.specs.Exec as Exec
 use Rattle.forms.proofs.Written.{worked-out, did-not-fit, done-with}
 use Rattle.forms.proofs.set_to.Statement.{statement}
 use Rattle.forms.proofs.set_to.Tie as tie

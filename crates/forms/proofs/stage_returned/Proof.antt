@@ -3,11 +3,11 @@ use borrow.Author.Needs.{needs}
 use denote.Ref.{now}
 use mathlib.Core.Bool.{Bool, true, false}
 use mathlib.Core.Path.{_≡_, refl, sym, ap, _∙_}
+use Rattle.whole.proofs.Ranges.{handed}
+use Rattle.whole.specs.Whole.{eqZ}
 use Rattle.layout.specs.Layout.{ofCall, caller}
 use Rattle.layout.specs.Stages.{nobody}
 use Rattle.rules.specs.Exec as Exec
-use Rattle.whole.proofs.Ranges.{handed}
-use Rattle.whole.specs.Whole.{eqZ}
 use Rattle.forms.proofs.stage_returned.Statement.{statement}
 use Rattle.forms.proofs.stage_returned.Tie as tie
 

@@ -2,13 +2,13 @@
 use borrow.Author.Needs.{needs}
 use denote.Ref.{now}
 use mathlib.Core.Path.{_≡_, sym, ap, _∙_}
+use Rattle.whole.proofs.Ranges.{handed}
 use Rattle.layout.proofs.Numbers.{label-some, label-none}
 use Rattle.layout.specs.Stages.{replyFor}
 use Rattle.layout.specs.Vocabulary.Found.{asLabel}
-use Rattle.rules.specs.Exec as Exec
 use Rattle.terms.specs.Values.{held}
 use Rattle.terms.specs.Vocabulary.Answers.{surroundings}
-use Rattle.whole.proofs.Ranges.{handed}
+use Rattle.rules.specs.Exec as Exec
 use Rattle.forms.proofs.Written.{not-performed, assigned-then, done-with}
 use Rattle.forms.proofs.took_reply.Statement.{statement}
 use Rattle.forms.proofs.took_reply.Tie as tie

@@ -1,8 +1,8 @@
 -- `layout::calls` meets its contract. Assumes nothing.
 use borrow.Author.Needs.{needs}
+use Rattle.whole.proofs.Ranges.{handed}
 use Rattle.layout.specs.Layout.{read, stands, cellOf}
 use Rattle.layout.specs.Vocabulary.Found.{heldAt}
-use Rattle.whole.proofs.Ranges.{handed}
 use Rattle.layout.proofs.calls.Statement.{statement}
 use Rattle.layout.proofs.calls.Tie as tie
 

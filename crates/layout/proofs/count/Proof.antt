@@ -4,10 +4,10 @@ use denote.Ref.{now}
 use lib.IntN.{pos}
 use lib.ListN.{getD}
 use mathlib.Core.Path.{_≡_, sym, ap, _∙_}
-use Rattle.layout.specs.Vocabulary.Found.{heldAt}
 use Rattle.whole.specs.Whole.{natural, nat}
 use Rattle.whole.specs.Vocabulary.Naturals.{asNatural}
 use Rattle.whole.proofs.Ranges.{handed, natural-is, nat-not}
+use Rattle.layout.specs.Vocabulary.Found.{heldAt}
 use Rattle.layout.proofs.count.Statement.{statement}
 use Rattle.layout.proofs.count.Tie as tie
 

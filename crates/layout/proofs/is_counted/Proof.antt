@@ -4,9 +4,9 @@ use lib.IntN.{pos}
 use mathlib.Core.Path.{ap₂, _∙_}
 use mir.Syntax.{w32}
 use mir.ValLaws.{toZ-ofZ}
-use Rattle.layout.specs.Vocabulary.Found.{heldAt}
 use Rattle.whole.proofs.Ranges.{handed}
 use Rattle.whole.specs.Whole.{between}
+use Rattle.layout.specs.Vocabulary.Found.{heldAt}
 use Rattle.layout.proofs.is_counted.Statement.{statement}
 use Rattle.layout.proofs.is_counted.Tie as tie
 

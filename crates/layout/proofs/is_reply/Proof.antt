@@ -4,10 +4,10 @@ use denote.Ref.{now}
 use lib.IntN.{pos}
 use mathlib.Core.Bool.{_&&_}
 use mathlib.Core.Path.{sym, ap, _∙_}
-use Rattle.layout.specs.Layout.{ofCall, caller}
-use Rattle.layout.specs.Stages.{isReply}
 use Rattle.whole.proofs.Ranges.{handed}
 use Rattle.whole.specs.Whole.{eqZ}
+use Rattle.layout.specs.Layout.{ofCall, caller}
+use Rattle.layout.specs.Stages.{isReply}
 use Rattle.layout.proofs.is_reply.Statement.{statement}
 use Rattle.layout.proofs.is_reply.Tie as tie
 

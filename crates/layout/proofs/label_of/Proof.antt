@@ -6,9 +6,9 @@ use mathlib.Core.Bool.{Bool, true, false}
 use mathlib.Core.Path.{_≡_, sym, ap, _∙_}
 use mir.Syntax.{w32}
 use mir.ValLaws.{toZ-ofZ}
+use Rattle.whole.specs.Whole.{between}
 use Rattle.layout.proofs.Numbers.{counted, label-in-use, label-not-in-use}
 use Rattle.layout.specs.Layout.{read, stands, cellOf, calls}
-use Rattle.whole.specs.Whole.{between}
 use Rattle.layout.proofs.label_of.Statement.{statement}
 use Rattle.layout.proofs.label_of.Tie as tie
 

@@ -7,10 +7,10 @@ use mathlib.Core.Path.{_≡_, sym, ap, _∙_}
 use native.Mathlib.Omega.{arith}
 use mir.Syntax.{w32}
 use mir.ValLaws.{toZ-ofZ}
+use Rattle.whole.specs.Whole.{between}
 use Rattle.layout.proofs.Numbers.{counted-within, object-in-use, object-not-in-use}
 use Rattle.layout.specs.Layout.{read, stands, cellOf, objects}
 use Rattle.layout.specs.Stages.{objectsInUse}
-use Rattle.whole.specs.Whole.{between}
 use Rattle.layout.proofs.object_of.Statement.{statement}
 use Rattle.layout.proofs.object_of.Tie as tie
 

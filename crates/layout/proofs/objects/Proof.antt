@@ -1,8 +1,8 @@
 -- `layout::objects` meets its contract. Assumes nothing.
 use borrow.Author.Needs.{needs}
+use Rattle.whole.proofs.Ranges.{handed}
 use Rattle.layout.specs.Layout.{read, stands, cellOf}
 use Rattle.layout.specs.Vocabulary.Found.{heldAt}
-use Rattle.whole.proofs.Ranges.{handed}
 use Rattle.layout.proofs.objects.Statement.{statement}
 use Rattle.layout.proofs.objects.Tie as tie
 

@@ -5,9 +5,9 @@ use mathlib.Core.Bool.{true, false}
 use mathlib.Core.Path.{_≡_, sym, ap, _∙_}
 use mir.Syntax.{w32}
 use mir.ValLaws.{toZ-ofZ}
+use Rattle.whole.specs.Plain.{onlyIf}
 use Rattle.layout.proofs.Numbers.{no-label, a-label}
 use Rattle.layout.specs.Vocabulary.Found.{asLabel}
-use Rattle.whole.specs.Plain.{onlyIf}
 use Rattle.layout.specs.Stages.{labelOf}
 use Rattle.layout.proofs.reply_for.Statement.{statement}
 use Rattle.layout.proofs.reply_for.Tie as tie

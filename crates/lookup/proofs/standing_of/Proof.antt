@@ -9,8 +9,8 @@ use native.Mathlib.Omega.{arith}
 use Rattle.whole.specs.Whole.{natural}
 use Rattle.whole.specs.Vocabulary.Naturals.{asNatural}
 use Rattle.whole.proofs.Ranges.{handed, natural-some, natural-none}
-use Rattle.terms.specs.Bytes.{Text}
 use Rattle.layout.specs.Layout.{ofCall, line}
+use Rattle.terms.specs.Bytes.{Text}
 use Rattle.model.specs.Model.{Model}
 use Rattle.model.specs.Vocabulary.Belonging.{Belongs}
 use Rattle.model.proofs.TableRows.{item-at}

@@ -10,6 +10,7 @@ use Rattle.terms.specs.Bytes.{Text}
 use Rattle.terms.specs.declared.Limits.{Limits}
 use Rattle.terms.specs.Parsed.{got, bad}
 use Rattle.terms.specs.Trees.{trees, guardTrees}
+use Rattle.text.specs.InOrder.{Taken, wrong}
 use Rattle.code.specs.Blocks.{Block, shapeOf, shapeNumber, through}
 use Rattle.code.specs.Reader.{statement}
 use Rattle.code.specs.Statements.{Code, newOf}
@@ -19,7 +20,6 @@ use Rattle.model.specs.declared.CodeFound.the-variants as Found
 use Rattle.model.specs.declared.MethodHead.{MethodHead}
 use Rattle.model.specs.declared.Stated.{Stated}
 use Rattle.model.specs.Bounds.{mostClasses}
-use Rattle.text.specs.InOrder.{Taken, wrong}
 use Rattle.model.specs.ModelText.{Creation, SoFar, mayStand, standing}
 use Rattle.model.specs.Vocabulary.Creations.{newNumber}
 

@@ -2,10 +2,10 @@
 use borrow.Author.Needs.{needs}
 use denote.Ref.{now}
 use mathlib.Core.Path.{ap, _∙_}
-use Rattle.probe.specs.Vocabulary.Packed.{packedValue}
 use Rattle.terms.specs.Vocabulary.Answers.{asValue}
 use Rattle.terms.specs.Expressions.{brackets}
 use Rattle.terms.specs.Vocabulary.Readers.{expressionRead}
+use Rattle.probe.specs.Vocabulary.Packed.{packedValue}
 use Rattle.probe.proofs.probe_expression.Statement.{statement}
 use Rattle.probe.proofs.probe_expression.Tie as tie
 

@@ -5,8 +5,8 @@ use lib.ListN.{getElem?}
 use mathlib.Core.Option.{some}
 use mathlib.Core.Path.{_≡_, sym, ap, subst, _∙_}
 use native.Mathlib.Omega.{arith}
-use Rattle.terms.specs.Bytes.{Text}
 use Rattle.layout.specs.Layout.{mostAttributes, ofObject, class, attribute}
+use Rattle.terms.specs.Bytes.{Text}
 use Rattle.model.specs.declared.Row.{Row}
 use Rattle.model.specs.Model.{Model, Class}
 use Rattle.model.specs.Vocabulary.Belonging.{Belongs}

@@ -1,8 +1,8 @@
 -- `code::partners::counted` meets its contract. Assumes nothing.
 use borrow.Author.Needs.{needs}
 use mathlib.Core.Path.{sym, ap}
-use Rattle.code.proofs.Counting.{counted-out, counted-across, counted-down, counted-up, counted-level}
 use Rattle.whole.specs.Vocabulary.Naturals.{asNatural}
+use Rattle.code.proofs.Counting.{counted-out, counted-across, counted-down, counted-up, counted-level}
 use Rattle.code.proofs.partners.counted.Statement.{statement}
 use Rattle.code.proofs.partners.counted.Tie as tie
 

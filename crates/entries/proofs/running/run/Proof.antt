@@ -48,13 +48,13 @@ use denote.Triple.Table.{entered, cited}
 use denote.Triple.Walked.{Stays, stay-none-slice, gave-slice, walkOf, goes-none-slice, goes-gave-slice, Walks, ends-at, walked, walk-meets}
 use denote.Exit.{yes}
 use denote.Signature.{plain, typesAt}
-use Rattle.model.specs.Vocabulary.Known.{Known, modelOf}
 use Rattle.text.specs.declared.Verdict.{Verdict}
 use Rattle.text.proofs.Verdict as verdict
 use Rattle.text.proofs.Verdict.Laws as verdict-laws
+use Rattle.model.specs.Vocabulary.Known.{Known, modelOf}
+use Rattle.cells.specs.Configuration.{isConfiguration}
 use Rattle.rules.specs.declared.Choice.{Choice}
 use Rattle.rules.proofs.Choice as choice
-use Rattle.cells.specs.Configuration.{isConfiguration}
 use Rattle.engine.specs.Run.{runCells, runAnswers}
 use Rattle.engine.specs.Entries as Entries
 use Rattle.entries.specs.Vocabulary.Checked as Checked

@@ -2,9 +2,9 @@
 use borrow.Author.Needs.{needs}
 use lib.IntN.{pos}
 use mathlib.Core.Path.{ap, _∙_}
-use Rattle.layout.specs.Stages.{stageOf, inStage}
 use Rattle.whole.proofs.Ranges.{handed}
 use Rattle.whole.specs.Whole.{eqZ}
+use Rattle.layout.specs.Stages.{stageOf, inStage}
 use Rattle.layout.proofs.stages.in_stage.Statement.{statement}
 use Rattle.layout.proofs.stages.in_stage.Tie as tie
 

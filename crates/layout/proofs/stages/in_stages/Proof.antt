@@ -5,10 +5,10 @@ use mathlib.Core.Path.{ap, ap₂, _∙_}
 use mir.Syntax.{w32}
 use mir.ValLaws.{toZ-pos}
 use native.Mathlib.Omega.{arith}
-use Rattle.layout.specs.Layout.{ofCall, stage}
-use Rattle.layout.specs.Stages.{stageOf, inStages}
 use Rattle.whole.proofs.Ranges.{handed}
 use Rattle.whole.specs.Whole.{between}
+use Rattle.layout.specs.Layout.{ofCall, stage}
+use Rattle.layout.specs.Stages.{stageOf, inStages}
 use Rattle.layout.proofs.stages.in_stages.Statement.{statement}
 use Rattle.layout.proofs.stages.in_stages.Tie as tie
 

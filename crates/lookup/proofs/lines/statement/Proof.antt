@@ -4,8 +4,8 @@ use mathlib.Core.Path.{_≡_, sym, ap, ap₂, subst, _∙_}
 use native.Mathlib.Omega.{arith}
 use denote.Ref.{now}
 use lib.ListN.{take, drop}
-use Rattle.code.specs.Vocabulary.Readers.{statementRead}
 use Rattle.terms.specs.Bytes.{Text}
+use Rattle.code.specs.Vocabulary.Readers.{statementRead}
 use Rattle.model.specs.declared.Row.{Row}
 use Rattle.model.specs.Vocabulary.Belonging.{valueIn}
 use Rattle.lookup.specs.Vocabulary.Found.{Inside, around}

@@ -5,14 +5,15 @@ use native.Mathlib.Omega.{arith}
 use borrow.Author.Needs.{needs}
 use denote.Ref.{now}
 use Rattle.whole.specs.Lists.{EachFrom}
+use Rattle.text.specs.Vocabulary.Readings.{Tells}
+use Rattle.text.proofs.SoMany.{Passed, passed-none, passed-stopped, passed-onward, passed-all}
+use Rattle.text.proofs.Onward.{told-failed, told-got}
 use Rattle.model.specs.ModelText.{readClass}
 use Rattle.model.specs.Vocabulary.Belonging.{LineTold, ClassTold}
-use Rattle.text.specs.Vocabulary.Readings.{Tells}
 use Rattle.model.specs.Vocabulary.Leaving.{between, ClassesLeft}
 use Rattle.model.specs.Vocabulary.Table.{Sized}
 use Rattle.model.proofs.Framing.{same-self, line-kept, class-kept}
-use Rattle.model.proofs.Loops.{Passed, passed-none, passed-stopped, passed-onward, passed-all, left-more}
-use Rattle.text.proofs.Onward.{told-failed, told-got}
+use Rattle.model.proofs.Loops.{left-more}
 use Rattle.model.proofs.classes.all_classes.Statement.{statement}
 use Rattle.model.proofs.classes.all_classes.Tie as tie
 

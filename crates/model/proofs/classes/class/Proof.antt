@@ -8,12 +8,12 @@ use Rattle.terms.specs.Bytes.{bytes}
 use Rattle.text.specs.declared.At.{At}
 use Rattle.text.specs.InOrder.{Reader, _>>=_, numberLine}
 use Rattle.text.specs.Lines.{plainByte, plainBytes}
+use Rattle.text.specs.Vocabulary.Readings.{readAt}
+use Rattle.text.proofs.Onward.{Comes, told-got, number-stops, number-passed, tells-made}
 use Rattle.model.specs.Model.{Class}
 use Rattle.model.specs.ModelText.{SoFar, readClass}
-use Rattle.text.specs.Vocabulary.Readings.{readAt}
 use Rattle.model.specs.Vocabulary.Leaving.{between}
 use Rattle.model.proofs.Chains.{most-if, fromMethods, fromCount, fromRun, fromGiven, fromAttrs}
-use Rattle.text.proofs.Onward.{Comes, told-got, number-stops, number-passed, tells-made}
 use Rattle.model.proofs.Puts.{class-put}
 use Rattle.model.proofs.classes.class.Statement.{statement}
 use Rattle.model.proofs.classes.class.Tie as tie

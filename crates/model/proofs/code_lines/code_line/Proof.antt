@@ -7,12 +7,12 @@ use denote.Ref.{now}
 use lib.ListN.{length, drop, length-take, length-drop}
 use Rattle.terms.specs.Bytes.{bytes}
 use Rattle.text.specs.InOrder.{right}
-use Rattle.model.specs.ModelText.{codeLine}
 use Rattle.text.specs.Lines.{plainByte, plainBytes}
 use Rattle.text.specs.Vocabulary.Readings.{Tells}
+use Rattle.text.proofs.KeyLines.{value-failed, value-stands, value-refused, value-read, value-placed}
+use Rattle.model.specs.ModelText.{codeLine}
 use Rattle.model.specs.Vocabulary.Standing.{CodeSaid}
 use Rattle.model.proofs.CodeRows.{line-taken, line-left}
-use Rattle.text.proofs.KeyLines.{value-failed, value-stands, value-refused, value-read, value-placed}
 use borrow.Author.Needs.{needs}
 use Rattle.model.proofs.code_lines.code_line.Statement.{statement}
 use Rattle.model.proofs.code_lines.code_line.Tie as tie

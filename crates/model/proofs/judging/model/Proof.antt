@@ -6,15 +6,15 @@ use borrow.Author.Needs.{needs}
 use denote.Ref.{now}
 use Rattle.terms.specs.Bytes.{bytes}
 use Rattle.text.specs.declared.At.{At}
-use Rattle.model.specs.Bounds.{edition}
 use Rattle.text.specs.InOrder.{Reader, _>>=_, numberLine}
 use Rattle.text.specs.Lines.{plainByte, plainBytes}
+use Rattle.text.specs.Vocabulary.Readings.{begin, readAt}
+use Rattle.text.proofs.Onward.{Comes, told-got, number-stops, number-passed, tells-so}
+use Rattle.model.specs.Bounds.{edition}
 use Rattle.model.specs.Model.{Model}
 use Rattle.model.specs.ModelText.{SoFar, readModel}
 use Rattle.model.specs.Vocabulary.Creations.{creationsFrom}
-use Rattle.text.specs.Vocabulary.Readings.{begin, readAt}
 use Rattle.model.proofs.Chains.{fromClasses, fromEdition}
-use Rattle.text.proofs.Onward.{Comes, told-got, number-stops, number-passed, tells-so}
 use Rattle.model.proofs.Puts.{model-put}
 use Rattle.model.proofs.judging.model.Statement.{statement}
 use Rattle.model.proofs.judging.model.Tie as tie

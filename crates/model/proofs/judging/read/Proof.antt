@@ -4,9 +4,9 @@ use borrow.Author.Needs.{needs}
 use denote.Ref.{now}
 use lib.ListN.{drop}
 use Rattle.text.specs.InOrder.{after}
-use Rattle.model.specs.Judge.{refusal, endJudged}
 use Rattle.text.specs.Lines.{lines}
 use Rattle.text.proofs.Onward.{told-failed, told-got}
+use Rattle.model.specs.Judge.{refusal, endJudged}
 use Rattle.model.proofs.Verdicts.{judged-long, judged-short, end-failed, told-refusal, all-given, told-end}
 use Rattle.model.proofs.judging.read.Statement.{statement}
 use Rattle.model.proofs.judging.read.Tie as tie

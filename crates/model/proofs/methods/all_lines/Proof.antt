@@ -2,9 +2,10 @@
 use Prim.Native.Nat.{_-_}
 use borrow.Author.Needs.{needs}
 use Rattle.text.specs.Vocabulary.Readings.{Tells}
-use Rattle.model.specs.Vocabulary.Table.{Sized}
-use Rattle.model.proofs.Loops.{passed-stopped, LinesPassed, lines-begun, lines-onward, lines-all}
+use Rattle.text.proofs.SoMany.{passed-stopped}
 use Rattle.text.proofs.Onward.{told-failed}
+use Rattle.model.specs.Vocabulary.Table.{Sized}
+use Rattle.model.proofs.Loops.{LinesPassed, lines-begun, lines-onward, lines-all}
 use Rattle.model.proofs.methods.all_lines.Statement.{statement}
 use Rattle.model.proofs.methods.all_lines.Tie as tie
 

@@ -5,15 +5,15 @@ use borrow.Author.Needs.{needs}
 use denote.Ref.{now}
 use Rattle.terms.specs.Bytes.{bytes}
 use Rattle.text.specs.declared.At.{At}
-use Rattle.model.specs.declared.ClassHead.{ClassHead}
 use Rattle.text.specs.InOrder.{Reader, _>>=_, numberLine}
 use Rattle.text.specs.Lines.{plainByte, plainBytes}
+use Rattle.text.specs.Vocabulary.Readings.{readAt}
+use Rattle.text.proofs.Onward.{Comes, told-got, number-stops, number-passed, tells-made}
+use Rattle.model.specs.declared.ClassHead.{ClassHead}
 use Rattle.model.specs.Model.{Method}
 use Rattle.model.specs.ModelText.{SoFar, linesBegun, readMethod}
-use Rattle.text.specs.Vocabulary.Readings.{readAt}
 use Rattle.model.specs.Vocabulary.Leaving.{between}
 use Rattle.model.proofs.Chains.{most-if, fromCode, fromLines, fromLocals, fromParams}
-use Rattle.text.proofs.Onward.{Comes, told-got, number-stops, number-passed, tells-made}
 use Rattle.model.proofs.Puts.{method-put}
 use Rattle.model.proofs.methods.method.Statement.{statement}
 use Rattle.model.proofs.methods.method.Tie as tie

@@ -4,9 +4,9 @@ use Prim.Native.Nat.{_-_, _≤_}
 use lib.ListN.{length, drop}
 use mathlib.Core.Path.{_≡_, refl, sym, ap, _∙_}
 use native.Mathlib.Omega.{arith}
-use Rattle.rules.specs.Kinds.{kinds}
 use Rattle.terms.specs.Parsed.{got, word}
 use Rattle.terms.proofs.Answers.{word-got, word-bad}
+use Rattle.rules.specs.Kinds.{kinds}
 use Rattle.session.specs.Choices.{kindName, choiceOf, digitsAlone}
 use Rattle.transcript.specs.Vocabulary.KindNames.{kindAt, chosen}
 use Rattle.transcript.proofs.KindsFound.{found, not-found, none-left, name-within}

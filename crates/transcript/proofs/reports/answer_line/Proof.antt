@@ -1,9 +1,9 @@
 -- `transcript::reports::answer_line` meets its contract. Assumes nothing.
 use borrow.Author.Needs.{needs}
 use mathlib.Core.Path.{ap, _∙_}
+use Rattle.whole.specs.Whole.{nat}
 use Rattle.terms.specs.Bytes.{bytes}
 use Rattle.session.specs.Shown.{shownLine}
-use Rattle.whole.specs.Whole.{nat}
 use mir.Syntax.{w32}
 use mir.ValLaws.{toZ-ofZ}
 use Rattle.transcript.specs.Vocabulary.Reported.{answerLine}
