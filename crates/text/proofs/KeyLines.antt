@@ -2,18 +2,19 @@
 use Prim.Native.Nat.{ℕ, zero, suc, _+_, _-_, _≤_, _<_}
 use mathlib.Core.Bool.{Bool, true, false}
 use mathlib.Core.List.{List, [], _∷_}
-use mathlib.Core.Path.{_≡_, refl, sym, ap, subst, _∙_}
+use mathlib.Core.Path.{_≡_, refl, sym, ap, ap₂, subst, _∙_}
 use native.Mathlib.Nat.{add-zero, zero-add, suc-add}
+use native.Mathlib.Numerals.{add-one}
 use native.Mathlib.Omega.{arith}
 use borrow.Author.Tests.{leb-true, leb-false, eqb-true}
 use lib.Dec.{leb, eqb}
-use lib.ListN.{length, take, drop}
-use lib.Seq.{drop-drop, take-nil}
+use lib.ListN.{length, take, drop, length-take, length-drop}
+use lib.Seq.{drop-cons, drop-drop, take-nil}
 use Rattle.whole.specs.Refusals.{brokenLine, wrongKey}
 use Rattle.whole.proofs.Both.{both-left}
 use Rattle.terms.specs.Bytes.{Text, byteAt}
 use Rattle.terms.specs.Parsed.{Parsed, got, bad, word}
-use Rattle.terms.proofs.Moving.{within-text, no-got, same-place, word-yes, word-no, word-none, word-on}
+use Rattle.terms.proofs.Moving.{within-text, no-got, word-yes, word-no, word-on}
 use Rattle.terms.proofs.Parts.{Free, shifted, unshifted, part-length, word-part}
 use Rattle.text.specs.declared.At.{At}
 use Rattle.text.specs.declared.Keyed.{Keyed}
@@ -51,18 +52,24 @@ plain-free (c ∷ w) h =
     let l = plain-bounds c (p .0) in
     (λ e. omega (arith, l), λ e. omega (arith, l), plain-free w (p .1))
 
--- a word that was read ends within the text
-pub word-within : (w s : Text) (at p : ℕ) (u : Unit {0}) → plainBytes w ≡ true → at ≤ length s → word w s at ≡ got p u → p ≤ length s
-word-within [] s at p u h l e = let f = same-place at p tt u (sym (word-none s at) ∙ e) in omega arith
-word-within (b ∷ w) s at p u h l e = go (eqb (byteAt s at) b) refl (word-within w s (at + 1) p u)
+-- a word that was read is what stands there
+pub word-front : (w s : Text) (at p : ℕ) → plainBytes w ≡ true → word w s at ≡ got p tt → take (length w) (drop at s) ≡ w
+word-front [] s at p h e = refl
+word-front (c ∷ w) s at p h e = go (eqb (byteAt s at) c) refl (word-front w s (at + 1) p (first-plain c w h .1))
   where
-    go : (t : Bool) → eqb (byteAt s at) b ≡ t → (plainBytes w ≡ true → at + 1 ≤ length s → word w s (at + 1) ≡ got p u → p ≤ length s)
-        → p ≤ length s
-    go false f rest = absurd (no-got at p u (sym (word-no b w s at f) ∙ e))
+    go : (t : Bool) → eqb (byteAt s at) c ≡ t → (word w s (at + 1) ≡ got p tt → take (length w) (drop (at + 1) s) ≡ w) → take (length (c ∷ w)) (drop at s) ≡ c ∷ w
+    go false f rest = absurd (no-got at p tt (sym (word-no c w s at f) ∙ e))
     go true f rest =
-        let k = first-plain b w h in
-        let n = within-text s at b (eqb-true _ _ f) (omega (arith, plain-bounds b (k .0))) in
-        rest (k .1) (omega arith) (sym (word-yes b w s at f) ∙ e)
+        let z : byteAt s at ≡ c = eqb-true _ _ f in
+        let l = within-text s at c z (omega (arith, plain-bounds c (first-plain c w h .0))) in
+        ap (take (suc (length w))) (drop-cons s at 0 l)
+        ∙ ap₂ _∷_ z (ap (λ i. take (length w) (drop i s)) (sym (add-one at)) ∙ rest (sym (word-yes c w s at f) ∙ e))
+
+-- and so it ends within the text
+pub word-within : (w s : Text) (at p : ℕ) → plainBytes w ≡ true → at ≤ length s → word w s at ≡ got p tt → p ≤ length s
+word-within w s at p h l e =
+    let n : length (take (length w) (drop at s)) ≡ length w = ap length (word-front w s at p h e) in
+    omega (arith, n, length-take (length w) (drop at s), length-drop at s, word-on w s at p e)
 
 -- what a number refuses: where no line is left, and where one is broken or sound
 module _ (s : Text) (n : ℕ) (p : At) where
@@ -143,7 +150,7 @@ module _ {A : Type 0} (s key : Text) (p : At) (value : ℕ → Text → Taken A)
         value-inside =
             let n = part-length s (p .place) e lineFeed (l .from) (l .within) (l .fed) in
             let m = word-on key s (p .place) v f in
-            let k = word-within key line 0 (v - p .place) tt plain (omega arith) by-part in
+            let k = word-within key line 0 (v - p .place) plain (omega arith) by-part in
             let h : length line ≤ longestLine = leb-true _ _ (both-left _ (plainBytes line) (l .plain)) in
             (omega arith, omega (arith, l .from), l .within, omega arith)
 

@@ -1,7 +1,7 @@
 -- A line with a number: what the code reads behind its key is what the definition gives of the line. Assumes nothing.
 use Prim.Native.Nat.{ℕ, zero, suc, _+_, _-_, _*_, _≤_, _<_}
 use mathlib.Core.Bool.{Bool, true, false, _&&_}
-use mathlib.Core.List.{[], _∷_}
+use mathlib.Core.List.{[]}
 use mathlib.Core.Option.{Option, none, some}
 use mathlib.Core.Path.{_≡_, refl, sym, ap, ap₂, subst, _∙_}
 use native.Mathlib.Nat.{le-of-lt}
@@ -19,7 +19,7 @@ use Rattle.terms.specs.Parsed.{Parsed, got, bad, next, word, repeated}
 use Rattle.terms.proofs.Bytes.{below-digits, above-digits}
 use Rattle.terms.proofs.Digits.{counting-none, counting-more, counting-past, decimal-none, decimal-past, decimal-zero, decimal-more, decimal-moves, decimal-below, digit-within}
 use Rattle.terms.proofs.Following.{next-of-got, next-of-bad, repeated-none, repeated-some}
-use Rattle.terms.proofs.Moving.{no-got, same-place, same-read, within-text, word-yes, word-no, word-on}
+use Rattle.terms.proofs.Moving.{no-got, same-place, same-read, within-text, word-on}
 use Rattle.terms.proofs.Parts.{shifted, unshifted, part-length, decimal-part}
 use Rattle.text.specs.declared.At.{At}
 use Rattle.text.specs.InOrder.{failed, after, Taken, wrong, right, passed, numberLine}
@@ -27,27 +27,14 @@ use Rattle.text.specs.Lines.{lines, lineFeed, longestLine, plainByte, pl
 use Rattle.text.specs.Numbers.{numberIn}
 use Rattle.text.specs.Vocabulary.KeyLines.{fedNumber}
 use Rattle.text.specs.Vocabulary.Readings.{readAt, fault}
-use Rattle.text.proofs.KeyLines.{refused-as, value-inside, value-taken}
+use Rattle.text.proofs.KeyLines.{word-front, refused-as, value-inside, value-taken}
 use Rattle.text.proofs.NumbersIn.{number-within, number-is}
-use Rattle.text.proofs.Plain.{first-plain, plain-bounds, plain-from, plain-first, plain-past, plain-start}
+use Rattle.text.proofs.Plain.{plain-from, plain-first, plain-past, plain-start}
 use Rattle.text.proofs.SoundEnds.{SoundLine, sound-found, end-from-plain, end-here}
 
 -- an LF is no digit
 no-digit : digit lineFeed ≡ none
 no-digit = below-digits lineFeed (omega arith)
-
--- a word that was read is what stands there
-word-front : (w s : Text) (at p : ℕ) → plainBytes w ≡ true → word w s at ≡ got p tt → take (length w) (drop at s) ≡ w
-word-front [] s at p h e = refl
-word-front (c ∷ w) s at p h e = go (eqb (byteAt s at) c) refl (word-front w s (at + 1) p (first-plain c w h .1))
-  where
-    go : (t : Bool) → eqb (byteAt s at) c ≡ t → (word w s (at + 1) ≡ got p tt → take (length w) (drop (at + 1) s) ≡ w) → take (length (c ∷ w)) (drop at s) ≡ c ∷ w
-    go false f rest = absurd (no-got at p tt (sym (word-no c w s at f) ∙ e))
-    go true f rest =
-        let z : byteAt s at ≡ c = eqb-true _ _ f in
-        let l = within-text s at c z (omega (arith, plain-bounds c (first-plain c w h .0))) in
-        ap (take (suc (length w))) (drop-cons s at 0 l)
-        ∙ ap₂ _∷_ z (ap (λ i. take (length w) (drop i s)) (sym (add-one at)) ∙ rest (sym (word-yes c w s at f) ∙ e))
 
 -- a digit is plain, and so are those of a decimal
 digit-plain : (b d : ℕ) → digit b ≡ some d → plainByte b ≡ true

@@ -60,7 +60,7 @@ name-plain start = refl
 name-plain deliver = refl
 
 pub name-within : (k : Kind) (l : Text) (at : ℕ) → word (kindName k) l 0 ≡ got at tt → at ≤ length l
-name-within k l at e = word-within (kindName k) l 0 at tt (name-plain k) (omega arith) e
+name-within k l at e = word-within (kindName k) l 0 at (name-plain k) (omega arith) e
 
 -- what is none of the first four is the fifth
 pub fifth : (n : ℕ) → 1 ≤ n → n ≤ 5 → (n ≡ 1 → ⊥) → (n ≡ 2 → ⊥) → (n ≡ 3 → ⊥) → (n ≡ 4 → ⊥) → 5 ≡ n

@@ -39,11 +39,19 @@ pub within-range : (z : ℤ) → mag z < 2147483648 → Value z ≡ within z
 unfolding within inRange
 within-range z h = rw (lt-ltb (mag z) 2147483648 h, within)
 
--- how large a negative, a difference of naturals, a sum and a product can be
+-- how large a negative, a second summand, a difference of naturals, a sum and a product can be
 mag-neg : (z : ℤ) → mag (negℤ z) ≤ mag z + 1
 mag-neg (pos zero) = omega arith
 mag-neg (pos (suc n)) = omega arith
 mag-neg (negsuc n) = omega arith
+
+mag-summand : (o : Operator) (y : ℤ) → mag (summand o y) ≤ mag y + 1
+unfolding summand
+mag-summand Minus y = mag-neg y
+mag-summand Plus y = omega arith
+mag-summand Times y = omega arith
+mag-summand Less y = omega arith
+mag-summand Equal y = omega arith
 
 mag-sub : (a b : ℕ) → mag (subℕ a b) ≤ a + b
 mag-sub a b = go (ltb a b)
@@ -73,12 +81,7 @@ mag-product (negsuc a) (negsuc b) = omega (arith, times-le (suc a) (suc b) (a + 
 module _ (x y : ℤ) (fits-x : SFits w32 x) (fits-y : SFits w32 y) where
   -- the second with its sign
   pub total-fits : (o : Operator) → SFits w64 (x +ℤ summand o y)
-  unfolding summand
-  total-fits Minus = record { sfits = omega (arith, fits-x .sfits, fits-y .sfits, mag-sum x (negℤ y), mag-neg y) }
-  total-fits Plus = record { sfits = omega (arith, fits-x .sfits, fits-y .sfits, mag-sum x y) }
-  total-fits Times = record { sfits = omega (arith, fits-x .sfits, fits-y .sfits, mag-sum x y) }
-  total-fits Less = record { sfits = omega (arith, fits-x .sfits, fits-y .sfits, mag-sum x y) }
-  total-fits Equal = record { sfits = omega (arith, fits-x .sfits, fits-y .sfits, mag-sum x y) }
+  total-fits o = record { sfits = omega (arith, fits-x .sfits, fits-y .sfits, mag-sum x (summand o y), mag-summand o y) }
 
   pub product-fits : SFits w64 (x *ℤ y)
   product-fits =
@@ -106,12 +109,7 @@ pub negative-fits : (y : ℤ) → SFits w32 y → SFits w64 (pos 0 -ℤ y)
 negative-fits y h = record { sfits = omega (arith, h .sfits, mag-sum (pos 0) (negℤ y), mag-neg y) }
 
 summand-fits : (o : Operator) (y : ℤ) → SFits w32 y → SFits w64 (summand o y)
-unfolding summand
-summand-fits Minus y h = record { sfits = omega (arith, h .sfits, mag-neg y) }
-summand-fits Plus y h = wide-fits y h
-summand-fits Times y h = wide-fits y h
-summand-fits Less y h = wide-fits y h
-summand-fits Equal y h = wide-fits y h
+summand-fits o y h = record { sfits = omega (arith, h .sfits, mag-summand o y) }
 
 pub summand-back : (o : Operator) (y r : ℤ) → SFits w32 y → r ≡ summand o (toZ w32 (ofZ w32 y)) → toZ w64 (ofZ w64 r) ≡ summand o y
 summand-back o y r h e = ap (λ z. toZ w64 (ofZ w64 z)) (e ∙ ap (summand o) (toZ-ofZ w32 y h)) ∙ toZ-ofZ w64 _ (summand-fits o y h)
