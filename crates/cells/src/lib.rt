@@ -1,1 +1,2 @@
 // Whether cells are a configuration of a model.
+#![tactic(auto)]

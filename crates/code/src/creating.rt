@@ -5,6 +5,7 @@ ghost use Rattle.code.specs.Vocabulary.Creating as Creating;
 use crate::{NewFound, Statement};
 
 // The class that a `new` names and how many arguments it has, of a statement beside which so many arguments stand.
+#[tactic(auto, unfolding(crate::specs::Vocabulary::Creating::as_new, crate::specs::Vocabulary::Creating::new_said))]
 pub fn new_of(statement: Statement, count: usize) -> NewFound
     ensures { result ≡ Creating.as_new (Creating.new_said statement count) }
 {

@@ -1,4 +1,5 @@
 // Code values: statements, and the partners of the lines that open and close blocks.
+#![tactic(auto)]
 use terms::{ReadWord, Variable};
 use whole::Worked;
 
@@ -8,7 +9,7 @@ pub mod partners;
 pub mod statements;
 
 // The twelve forms of a code value.
-#[derive(Drop)]
+#[derive(Clone, Copy)]
 pub enum Form {
     Skip,
     Set,
@@ -25,21 +26,21 @@ pub enum Form {
 }
 
 // The forms that are a word and an expression.
-#[derive(Drop)]
+#[derive(Clone, Copy)]
 pub enum Valued {
     If,
     While,
     Return,
 }
 
-#[derive(Drop)]
+#[derive(Clone, Copy)]
 pub enum FormFound {
     Is(Form),
     Nothing,
 }
 
 // A statement with its expressions and its guard worked out. The arguments of a `new` and of a `call` stand beside it.
-#[derive(Drop)]
+#[derive(Clone, Copy)]
 pub enum Statement {
     Skip,
     Set(Variable, Worked),
@@ -57,7 +58,7 @@ pub enum Statement {
 
 // Arguments worked out: the first eight of them (0 for one that is none), how many there are, and whether each is a value. The widest part
 // stands first, here and where arguments are a part: with a byte and its gap before the eight, a code line was read in a quarter more time.
-#[derive(Drop)]
+#[derive(Clone, Copy)]
 pub struct Arguments {
     pub values: [i32; 8],
     pub count: usize,
@@ -65,27 +66,27 @@ pub struct Arguments {
 }
 
 // Where a list of arguments ended, or the place of its refusal.
-#[derive(Drop)]
+#[derive(Clone, Copy)]
 pub struct ReadList {
     pub arguments: Arguments,
     pub end: ReadWord,
 }
 
 // A code value that was read, or the place of its refusal.
-#[derive(Drop)]
+#[derive(Clone, Copy)]
 pub enum ReadStatement {
     Got(Statement),
     Bad(usize),
 }
 
-#[derive(Drop)]
+#[derive(Clone, Copy)]
 pub struct ReadCode {
     pub arguments: Arguments,
     pub read: ReadStatement,
 }
 
 // What a line is, as far as blocks, returns and awaits go.
-#[derive(Drop)]
+#[derive(Clone, Copy)]
 pub enum Shape {
     If,
     Else,
@@ -98,14 +99,14 @@ pub enum Shape {
 }
 
 // The open blocks after a line, as one number; or the line closes a block that is not the innermost open one.
-#[derive(Drop)]
+#[derive(Clone, Copy)]
 pub enum BlocksAfter {
     Open(u32),
     Unmatched,
 }
 
 // The class of a `new` and how many arguments it has, or none where a statement is no `new`.
-#[derive(Drop)]
+#[derive(Clone, Copy)]
 pub enum NewFound {
     Is(u32, usize),
     Nothing,

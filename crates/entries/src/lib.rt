@@ -1,4 +1,5 @@
 // The entries start, step, run and drive: the text judged first, then 10, then (start excepted) 11, then 13 or 14, then the choice.
+#![tactic(auto)]
 ghost use Rattle.std.specs.Prelude.{◌≡◌, pos, length, replicate};
 ghost use Rattle.whole.specs.Refusals as Refusals;
 ghost use Rattle.layout.specs.Layout as Layout;
@@ -33,6 +34,7 @@ fn clear(cells: &mut [i32])
 }
 
 // "Start writes: one object of class 0, attributes 0, running label 1; call 1 with caller 0, callee 1, method 0, stage 4, the rest 0."
+#[tactic(auto, using(crate::proofs::Freshly::fresh_written), unfolding(cells::specs::Fresh::fresh))]
 fn write_fresh(cells: &mut [i32])
     requires { length cells.old ≡ Layout.all_cells }
     ensures { cells.new ≡ fresh }
@@ -53,6 +55,7 @@ fn write_fresh(cells: &mut [i32])
 }
 
 // The text, then 10: accepted, or the verdict that every entry then gives.
+#[tactic(auto, using(crate::proofs::Outcomes::all_there, crate::proofs::Outcomes::not_all, crate::proofs::Outcomes::text_refused, model::proofs::Knowing::known), unfolding(engine::specs::Entries::at_no_line))]
 fn on_model(text: &[u8], table: &mut [u16], shapes: &mut [u8], cells: &[i32]) -> Verdict
     requires { Table.Sized table.old shapes.old }
     ensures { Checked.OnModel text.now table.new shapes.new cells.now result }
@@ -71,6 +74,7 @@ fn on_model(text: &[u8], table: &mut [u16], shapes: &mut [u8], cells: &[i32]) ->
 }
 
 // Then 11.
+#[tactic(auto, using(crate::proofs::Outcomes::configuration, crate::proofs::Outcomes::no_configuration_lem, crate::proofs::Outcomes::stopped), unfolding(engine::specs::Entries::at_no_line))]
 fn on_configuration(text: &[u8], table: &mut [u16], shapes: &mut [u8], cells: &[i32]) -> Verdict
     requires { Table.Sized table.old shapes.old }
     ensures { Checked.OnConfiguration text.now table.new shapes.new cells.now result }
@@ -89,6 +93,7 @@ fn on_configuration(text: &[u8], table: &mut [u16], shapes: &mut [u8], cells: &[
 }
 
 // Start, with the table and the shapes in memory that is lent: of an accepted text they serve the steps after it.
+#[tactic(auto, using(crate::proofs::Outcomes::start_accepted, crate::proofs::Outcomes::start_refused), unfolding(engine::specs::Entries::start))]
 pub fn start_in(text: &[u8], table: &mut [u16], shapes: &mut [u8], cells: &mut [i32]) -> Verdict
     requires { Table.Sized table.old shapes.old }
     ensures value { result ≡ (Entries.start text.now cells.old).verdict }
@@ -113,6 +118,7 @@ pub fn start(text: &[u8], cells: &mut [i32]) -> Verdict
 }
 
 // Step: one choice, whose answer is the entry's own.
+#[tactic(auto, using(crate::proofs::Outcomes::step_done, crate::proofs::Outcomes::step_refused), unfolding(engine::specs::Entries::at_no_line, engine::specs::Entries::step))]
 pub fn step(text: &[u8], cells: &mut [i32], choice: Choice) -> Verdict
     ensures value { result ≡ (Entries.step text.now cells.old choice).verdict }
     ensures cells_after { cells.new ≡ (Entries.step text.now cells.old choice).cells }

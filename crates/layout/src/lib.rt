@@ -1,4 +1,5 @@
 // The cells of a configuration by named places: object numbers and labels, their fields, and whose reply is in.
+#![tactic(auto)]
 ghost use Rattle.std.specs.Prelude.{◌≡◌, ◌≤◌, pos, get_or};
 ghost use Rattle.whole.specs.Whole as Whole;
 ghost use Rattle.layout.specs.Layout as Layout;
@@ -12,35 +13,35 @@ pub mod unused;
 pub mod writers;
 
 // "Object numbers and labels are counted apart, and neither stands in for the other." Each is made from a cell only after its test.
-#[derive(Drop)]
+#[derive(Clone, Copy)]
 pub struct ObjectNumber(pub u8);
 
-#[derive(Drop)]
+#[derive(Clone, Copy)]
 pub struct Label(pub u32);
 
 // A number that is a label in use, or none.
-#[derive(Drop)]
+#[derive(Clone, Copy)]
 pub enum LabelFound {
     At(Label),
     Nothing,
 }
 
 // A number that is an object's in use, or none.
-#[derive(Drop)]
+#[derive(Clone, Copy)]
 pub enum ObjectFound {
     At(ObjectNumber),
     Nothing,
 }
 
 // The row of a label, if it has one.
-#[derive(Drop)]
+#[derive(Clone, Copy)]
 pub enum RowFound {
     At(u32),
     Nothing,
 }
 
 // The cell of a place, if it stands.
-#[derive(Drop)]
+#[derive(Clone, Copy)]
 pub enum CellFound {
     At(usize),
     Nothing,
@@ -90,6 +91,7 @@ pub const VALUE: u16 = 7;
 pub const LOCAL: u16 = 8;
 
 // What stands in a cell that was found; one that is not there reads as 0.
+#[tactic(auto, unfolding(crate::specs::Vocabulary::Found::held_at))]
 fn cell(cells: &[i32], found: CellFound) -> i32
     ensures { result ≡ Found.held_at cells.now found }
 {
@@ -100,6 +102,7 @@ fn cell(cells: &[i32], found: CellFound) -> i32
 }
 
 // A row, from 1, of so many.
+#[tactic(auto, unfolding(crate::specs::Layout::is_row))]
 fn is_row(rows: u32, row: u32) -> bool
     ensures { result ≡ Layout.is_row rows row }
 {
@@ -107,6 +110,7 @@ fn is_row(rows: u32, row: u32) -> bool
 }
 
 // The cell of a field in a row, where so many rows of so many cells stand from a first cell on.
+#[tactic(auto, using(crate::proofs::Fields::field_past, crate::proofs::Fields::field_there, crate::proofs::Fields::row_past, crate::proofs::Laws::row_within), unfolding(crate::specs::Vocabulary::Found::as_cell, crate::specs::Vocabulary::Found::field_cell))]
 fn field_cell(first: usize, rows: u32, width: u16, row: u32, field: u16) -> CellFound
     requires { first ≤ 322 }
     ensures { result ≡ Found.as_cell (Found.field_cell first rows width row field) }
@@ -120,6 +124,7 @@ fn field_cell(first: usize, rows: u32, width: u16, row: u32, field: u16) -> Cell
 }
 
 // The cell of a field of an object.
+#[tactic(auto, unfolding(crate::specs::Layout::cell_of, crate::specs::Layout::stands, crate::specs::Vocabulary::Found::as_cell, crate::specs::Vocabulary::Found::field_cell, crate::specs::Vocabulary::Found::placed))]
 fn object_cell(o: ObjectNumber, field: u16) -> CellFound
     ensures { result ≡ Found.as_cell (Found.placed (Layout.object o.0 field)) }
 {
@@ -127,6 +132,7 @@ fn object_cell(o: ObjectNumber, field: u16) -> CellFound
 }
 
 // A field of an object.
+#[tactic(auto, using(crate::proofs::Fields::held_placed), unfolding(crate::specs::Layout::of_object))]
 pub fn of_object(cells: &[i32], o: ObjectNumber, field: u16) -> i32
     ensures { result ≡ Layout.of_object cells.now o.0 field }
 {
@@ -134,6 +140,7 @@ pub fn of_object(cells: &[i32], o: ObjectNumber, field: u16) -> i32
 }
 
 // The row of a label.
+#[tactic(auto, unfolding(crate::specs::Layout::row_of, crate::specs::Vocabulary::Found::as_row, whole::specs::Plain::only_if))]
 fn row_of(cells: &[i32], l: Label) -> RowFound
     ensures { result ≡ Found.as_row (Layout.row_of cells.now l.0) }
 {
@@ -145,6 +152,7 @@ fn row_of(cells: &[i32], l: Label) -> RowFound
 }
 
 // The cell of a field of a call.
+#[tactic(auto, using(crate::proofs::Fields::call_at, crate::proofs::Fields::call_none, crate::proofs::Numbers::row_none, crate::proofs::Numbers::row_some), unfolding(crate::specs::Layout::cell_of, crate::specs::Layout::stands, crate::specs::Vocabulary::Found::as_cell, crate::specs::Vocabulary::Found::call_placed, crate::specs::Vocabulary::Found::field_cell, crate::specs::Vocabulary::Found::placed))]
 fn call_cell(cells: &[i32], l: Label, field: u16) -> CellFound
     ensures { result ≡ Found.as_cell (Found.call_placed cells.now l.0 field) }
 {
@@ -155,6 +163,7 @@ fn call_cell(cells: &[i32], l: Label, field: u16) -> CellFound
 }
 
 // A field of a call.
+#[tactic(auto, using(crate::proofs::Fields::held_call), unfolding(crate::specs::Layout::of_call))]
 pub fn of_call(cells: &[i32], l: Label, field: u16) -> i32
     ensures { result ≡ Layout.of_call cells.now l.0 field }
 {
@@ -162,12 +171,14 @@ pub fn of_call(cells: &[i32], l: Label, field: u16) -> i32
 }
 
 // "Cell 0: objects; cell 1: calls issued."
+#[tactic(auto, using(whole::proofs::Ranges::handed), unfolding(crate::specs::Layout::cell_of, crate::specs::Layout::read, crate::specs::Layout::stands, crate::specs::Vocabulary::Found::held_at))]
 pub fn objects(cells: &[i32]) -> i32
     ensures { result ≡ Layout.read cells.now Layout.objects }
 {
     cell(cells, CellFound::At(OBJECTS))
 }
 
+#[tactic(auto, using(whole::proofs::Ranges::handed), unfolding(crate::specs::Layout::cell_of, crate::specs::Layout::read, crate::specs::Layout::stands, crate::specs::Vocabulary::Found::held_at))]
 pub fn calls(cells: &[i32]) -> i32
     ensures { result ≡ Layout.read cells.now Layout.calls }
 {
@@ -175,6 +186,7 @@ pub fn calls(cells: &[i32]) -> i32
 }
 
 // The count in a cell.
+#[tactic(auto, using(whole::proofs::Ranges::handed, whole::proofs::Ranges::nat_not, whole::proofs::Ranges::natural_is), unfolding(crate::specs::Vocabulary::Found::held_at, whole::specs::Whole::nat))]
 fn count(cells: &[i32], at: usize) -> usize
     ensures { result ≡ Whole.nat (get_or cells.now at (pos 0)) }
 {
@@ -185,12 +197,14 @@ fn count(cells: &[i32], at: usize) -> usize
 }
 
 // How many objects, and how many call rows, are in use.
+#[tactic(auto, unfolding(crate::specs::Layout::cell_of, crate::specs::Layout::read, crate::specs::Layout::stands, crate::specs::Stages::objects_in_use))]
 pub fn objects_in_use(cells: &[i32]) -> usize
     ensures { result ≡ Stages.objects_in_use cells.now }
 {
     count(cells, OBJECTS)
 }
 
+#[tactic(auto, unfolding(crate::specs::Layout::cell_of, crate::specs::Layout::read, crate::specs::Layout::stands, crate::specs::Stages::rows_in_use))]
 pub fn rows_in_use(cells: &[i32]) -> usize
     ensures { result ≡ Stages.rows_in_use cells.now }
 {
@@ -198,6 +212,7 @@ pub fn rows_in_use(cells: &[i32]) -> usize
 }
 
 // A number from 1 to the count in a cell.
+#[tactic(auto, using(whole::proofs::Ranges::handed), unfolding(crate::specs::Vocabulary::Found::held_at, whole::specs::Whole::between))]
 fn is_counted(cells: &[i32], at: usize, z: i32) -> bool
     ensures { result ≡ Whole.between (pos 1) (get_or cells.now at (pos 0)) z }
 {
@@ -205,6 +220,7 @@ fn is_counted(cells: &[i32], at: usize, z: i32) -> bool
 }
 
 // A number as an object's in use, among so few that a byte holds them.
+#[tactic(auto, using(crate::proofs::Numbers::counted_within, crate::proofs::Numbers::object_in_use, crate::proofs::Numbers::object_not_in_use), unfolding(crate::specs::Layout::cell_of, crate::specs::Layout::read, crate::specs::Layout::stands, crate::specs::Stages::object_of, crate::specs::Stages::objects_in_use, crate::specs::Vocabulary::Found::as_object))]
 pub fn object_of(cells: &[i32], z: i32) -> ObjectFound
     requires { Stages.objects_in_use cells.now ≤ 255 }
     ensures { result ≡ Found.as_object (Stages.object_of cells.now z) }
@@ -217,6 +233,7 @@ pub fn object_of(cells: &[i32], z: i32) -> ObjectFound
 }
 
 // A number as a label in use.
+#[tactic(auto, using(crate::proofs::Numbers::counted, crate::proofs::Numbers::label_in_use, crate::proofs::Numbers::label_not_in_use), unfolding(crate::specs::Layout::cell_of, crate::specs::Layout::read, crate::specs::Layout::stands, crate::specs::Stages::label_of, crate::specs::Vocabulary::Found::as_label))]
 pub fn label_of(cells: &[i32], z: i32) -> LabelFound
     ensures { result ≡ Found.as_label (Stages.label_of cells.now z) }
 {
@@ -228,6 +245,7 @@ pub fn label_of(cells: &[i32], z: i32) -> LabelFound
 }
 
 // "of stage 6 whose caller is this object"
+#[tactic(auto, using(whole::proofs::Ranges::handed), unfolding(crate::specs::Stages::is_reply))]
 fn is_reply(cells: &[i32], o: ObjectNumber, l: Label) -> bool
     ensures { result ≡ Stages.is_reply cells.now o.0 l.0 }
 {
@@ -239,6 +257,7 @@ fn is_reply(cells: &[i32], o: ObjectNumber, l: Label) -> bool
 }
 
 // "a label of stage 6 whose caller is this object"
+#[tactic(auto, using(crate::proofs::Numbers::a_label, crate::proofs::Numbers::no_label), unfolding(crate::specs::Stages::reply_for, crate::specs::Vocabulary::Found::as_label, whole::specs::Plain::only_if))]
 pub fn reply_for(cells: &[i32], o: ObjectNumber, z: i32) -> LabelFound
     ensures { result ≡ Found.as_label (Stages.reply_for cells.now o.0 z) }
 {

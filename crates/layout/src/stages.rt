@@ -19,6 +19,7 @@ pub const REPLIED: u8 = 6;
 pub const TAKEN: u8 = 7;
 
 // A call in a stage.
+#[tactic(auto, using(whole::proofs::Ranges::handed), unfolding(crate::specs::Stages::in_stage, crate::specs::Stages::stage_of))]
 pub fn in_stage(cells: &[i32], l: Label, stage: u8) -> bool
     ensures { result ≡ Stages.in_stage cells.now l.0 stage }
 {
@@ -26,6 +27,7 @@ pub fn in_stage(cells: &[i32], l: Label, stage: u8) -> bool
 }
 
 // A call in one of several stages, from a first to a last.
+#[tactic(auto, using(whole::proofs::Ranges::handed), unfolding(crate::specs::Stages::in_stages, crate::specs::Stages::stage_of))]
 pub fn in_stages(cells: &[i32], l: Label, first: u8, last: u8) -> bool
     ensures { result ≡ Stages.in_stages cells.now l.0 first last }
 {

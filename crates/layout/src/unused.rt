@@ -5,6 +5,7 @@ ghost use Rattle.layout.specs.Stages as Stages;
 ghost use Rattle.layout.specs.Vocabulary.Found as Found;
 
 // Every cell from one on and before another is 0.
+#[tactic(auto, using(crate::proofs::Zeros::zeros_done, crate::proofs::Zeros::zeros_more, crate::proofs::Zeros::zeros_stop, whole::proofs::Ranges::same_bits), unfolding(crate::specs::Vocabulary::Found::zeros_in))]
 fn zeros(cells: &[i32], from: usize, to: usize) -> bool
     requires { to ≤ length cells.now }
     ensures { result ≡ Found.zeros_in cells.now from to }
@@ -20,6 +21,7 @@ fn zeros(cells: &[i32], from: usize, to: usize) -> bool
 }
 
 // Every cell of the object rows and of the call rows that are not in use is 0.
+#[tactic(auto, unfolding(crate::specs::Stages::objects_in_use, crate::specs::Stages::rows_in_use, crate::specs::Vocabulary::Found::zeros_in))]
 pub fn unused_zero(cells: &[i32]) -> bool
     requires cells_len { length cells.now ≡ Layout.all_cells }
     requires cells_bound { Stages.objects_in_use cells.now ≤ Layout.object_rows }

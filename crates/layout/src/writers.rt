@@ -7,7 +7,7 @@ ghost use Rattle.layout.specs.Vocabulary.Found as Found;
 use crate::{CellFound, Label, ObjectNumber};
 
 // What the row of a new call holds beside its locals.
-#[derive(Drop)]
+#[derive(Clone, Copy)]
 pub struct NewCall {
     pub stage: u8,
     pub caller: u8,
@@ -17,6 +17,7 @@ pub struct NewCall {
 }
 
 // A value put in a cell that was found, if it is there.
+#[tactic(auto, using(crate::proofs::Fields::set_past), unfolding(crate::specs::Vocabulary::Found::put_at))]
 fn put(cells: &mut [i32], found: CellFound, z: i32)
     ensures { cells.new ≡ Found.put_at cells.old found z }
 {
@@ -31,6 +32,7 @@ fn put(cells: &mut [i32], found: CellFound, z: i32)
 }
 
 // A value for a field of an object.
+#[tactic(auto, using(crate::proofs::Fields::put_placed), unfolding(crate::specs::Layout::to_object, crate::specs::Layout::written))]
 pub fn to_object(cells: &mut [i32], o: ObjectNumber, field: u16, z: i32)
     ensures { cells.new ≡ Layout.written cells.old (Layout.to_object o.0 field z) }
 {
@@ -38,6 +40,7 @@ pub fn to_object(cells: &mut [i32], o: ObjectNumber, field: u16, z: i32)
 }
 
 // A value for a field of a call.
+#[tactic(auto, using(crate::proofs::Fields::put_call), unfolding(crate::specs::Layout::to_call, crate::specs::Layout::written))]
 pub fn to_call(cells: &mut [i32], l: Label, field: u16, z: i32)
     ensures { cells.new ≡ Layout.written cells.old (Layout.to_call cells.old l.0 field z) }
 {
@@ -46,6 +49,7 @@ pub fn to_call(cells: &mut [i32], l: Label, field: u16, z: i32)
 }
 
 // Every change of a call's stage.
+#[tactic(auto, unfolding(crate::specs::Layout::written, crate::specs::Stages::staged))]
 pub fn to_stage(cells: &mut [i32], l: Label, stage: u8)
     ensures { cells.new ≡ Layout.written cells.old (Stages.staged cells.old l.0 stage) }
 {
@@ -53,6 +57,7 @@ pub fn to_stage(cells: &mut [i32], l: Label, stage: u8)
 }
 
 // A count put in its cell.
+#[tactic(auto, unfolding(crate::specs::Vocabulary::Found::put_at))]
 fn to_count(cells: &mut [i32], at: usize, count: u8)
     ensures { cells.new ≡ set cells.old at (pos count) }
 {
@@ -60,12 +65,14 @@ fn to_count(cells: &mut [i32], at: usize, count: u8)
 }
 
 // How many objects, and how many calls, there are from now on.
+#[tactic(auto, unfolding(crate::specs::Layout::cell_of, crate::specs::Layout::stands, crate::specs::Layout::write, crate::specs::Layout::written))]
 pub fn to_objects(cells: &mut [i32], count: u8)
     ensures { cells.new ≡ Layout.written cells.old ((Layout.objects, pos count) ∷ []) }
 {
     to_count(cells, crate::OBJECTS, count)
 }
 
+#[tactic(auto, unfolding(crate::specs::Layout::cell_of, crate::specs::Layout::stands, crate::specs::Layout::write, crate::specs::Layout::written))]
 pub fn to_calls(cells: &mut [i32], count: u8)
     ensures { cells.new ≡ Layout.written cells.old ((Layout.calls, pos count) ∷ []) }
 {
@@ -73,6 +80,7 @@ pub fn to_calls(cells: &mut [i32], count: u8)
 }
 
 // The fields of a row put anew from one on, where so many rows of so many cells stand from a first cell on.
+#[tactic(auto, using(crate::proofs::Fields::length_put, crate::proofs::Fields::row_done, crate::proofs::Fields::row_more), unfolding(crate::specs::Vocabulary::Found::row_to))]
 fn to_row(
     first: usize,
     rows: u32,
@@ -98,6 +106,7 @@ fn to_row(
 }
 
 // The row of a new object: its class, its running label, and its attributes.
+#[tactic(auto, using(crate::proofs::Fields::row_append, crate::proofs::Fields::row_written), unfolding(crate::specs::Layout::cell_of, crate::specs::Layout::row_from, crate::specs::Layout::stands, crate::specs::Layout::written, crate::specs::Vocabulary::Found::field_cell, crate::specs::Vocabulary::Found::placed))]
 pub fn new_object(cells: &mut [i32], o: ObjectNumber, class: u8, label: u8, attributes: &[i32])
     requires { length attributes.now ≤ 8 }
     ensures { cells.new ≡ Layout.written cells.old (Layout.row_from (Layout.object o.0) Layout.class (pos class ∷ pos label ∷ attributes.now)) }
@@ -125,6 +134,7 @@ pub fn new_object(cells: &mut [i32], o: ObjectNumber, class: u8, label: u8, attr
 }
 
 // The row of a new call: its stage, caller, callee and method, the number of its arguments, and its locals; line, cleared and value 0.
+#[tactic(auto, using(crate::proofs::Fields::row_append, crate::proofs::Fields::row_written), unfolding(crate::specs::Layout::cell_of, crate::specs::Layout::row_from, crate::specs::Layout::stands, crate::specs::Layout::written, crate::specs::Vocabulary::Found::field_cell, crate::specs::Vocabulary::Found::placed))]
 pub fn new_call(cells: &mut [i32], row: u32, call: NewCall, locals: &[i32])
     requires { length locals.now ≤ 8 }
     ensures { cells.new ≡ Layout.written cells.old (Layout.row_from (Layout.call row) Layout.stage (pos call.stage ∷ pos call.caller ∷ pos call.callee ∷ pos call.method ∷ pos call.args ∷ pos 0 ∷ pos 0 ∷ pos 0 ∷ locals.now)) }

@@ -21,6 +21,7 @@ const MOST_LINES: u32 = 64;
 const ALL_LINES: u32 = 512;
 
 // "Class 0 has given 0"; another at most its attributes.
+#[tactic(auto, unfolding(crate::specs::ModelText::zero_if))]
 pub fn most_given(class: u32, attrs: u32) -> u32
     ensures { result ≡ ModelText.zero_if (eqb class 0) attrs }
 {
@@ -35,6 +36,7 @@ pub fn least_run(class: u32) -> u32
 }
 
 // "Where run is 1, method 0 has params 0."
+#[tactic(auto, unfolding(crate::specs::ModelText::zero_if))]
 pub fn most_params(run: u32, method: u32) -> u32
     ensures { result ≡ ModelText.zero_if (eqb run 1 && eqb method 0) Bounds.most_params }
 {

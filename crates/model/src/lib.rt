@@ -1,4 +1,5 @@
 // The verdict on a model text, and the table that later parts find its lines by.
+#![tactic(auto)]
 
 pub mod bounds;
 pub mod classes;
@@ -9,7 +10,7 @@ pub mod methods;
 pub mod table;
 
 // The class being read: how many classes there are, its index, its attributes, and whether it runs.
-#[derive(Drop)]
+#[derive(Clone, Copy)]
 pub struct ClassHead {
     pub classes: u32,
     pub index: u32,
@@ -19,7 +20,7 @@ pub struct ClassHead {
 
 // The method being read: how many classes there are, what its variables are below, how many code lines it has, and the number of the first
 // of them among those of all methods.
-#[derive(Drop)]
+#[derive(Clone, Copy)]
 pub struct MethodHead {
     pub classes: u32,
     pub attrs: u32,
@@ -29,7 +30,7 @@ pub struct MethodHead {
 }
 
 // What a code value is: its shape, the open blocks after it, and its `new` as one number.
-#[derive(Drop)]
+#[derive(Clone, Copy)]
 pub struct Stated {
     pub shape: u8,
     pub blocks: u32,
@@ -37,12 +38,12 @@ pub struct Stated {
 }
 
 // A code value, or the number that refuses it.
-#[derive(Drop)]
+#[derive(Clone, Copy)]
 pub enum CodeFound {
     Refused(u32),
     Is(Stated),
 }
 
 // A row of the table: four numbers.
-#[derive(Drop)]
+#[derive(Clone, Copy)]
 pub struct Row(pub u32, pub u32, pub u32, pub u32);

@@ -22,6 +22,7 @@ pub const FIRST_CODE: usize = FIRST_METHOD + METHODS * FIRST_METHOD;
 pub const MODEL: usize = FIRST_CODE + LINES;
 
 // The four numbers of a row.
+#[tactic(auto, unfolding(crate::specs::Vocabulary::Table::row_at))]
 pub fn row(table: &[u16], r: usize) -> Row
     requires table_len { length table.now ≡ Table.table_size }
     requires r_bound { r < Table.rows }
@@ -37,6 +38,7 @@ pub fn row(table: &[u16], r: usize) -> Row
 }
 
 // How many classes the model has.
+#[tactic(auto, unfolding(crate::specs::Vocabulary::Table::classes_in))]
 pub fn classes(table: &[u16]) -> u32
     requires { length table.now ≡ Table.table_size }
     ensures { result ≡ Table.classes_in table.now }
@@ -46,6 +48,7 @@ pub fn classes(table: &[u16]) -> u32
 }
 
 // Four numbers in the place of a row's.
+#[tactic(auto, unfolding(crate::specs::Vocabulary::Table::put))]
 pub fn put(table: &mut [u16], r: usize, row: Row)
     requires table_len { length table.old ≡ Table.table_size }
     requires r_bound { r < Table.rows }
@@ -69,6 +72,7 @@ pub fn method_place(class: u32, method: u32) -> usize
 }
 
 // A method's row.
+#[tactic(auto, unfolding(crate::specs::Vocabulary::Table::row_at))]
 pub fn method_row(table: &[u16], class: u32, method: u32) -> Row
     requires table_len { length table.now ≡ Table.table_size }
     requires class_bound { class < 16 }

@@ -1,4 +1,5 @@
 // The readers of terms for programs in C and Rust, so that they can be tried from outside.
+#![tactic(auto)]
 ghost use Rattle.std.specs.Prelude.{◌≡◌, ◌≤◌};
 ghost use Rattle.terms.specs.Vocabulary.Readers.{expression_read, guard_read};
 ghost use Rattle.terms.specs.Expressions.{brackets};
@@ -24,6 +25,7 @@ fn place(p: usize) -> u64
 }
 
 // The 32 bits of a value.
+#[tactic(auto, using(whole::proofs::Ranges::read_back, whole::proofs::Ranges::wide_fits))]
 fn bits(z: i32) -> u64
     ensures value { result ≡ Packed.bits z }
     ensures upper_bound { result ≤ 4294967295 }
@@ -35,6 +37,7 @@ fn bits(z: i32) -> u64
 }
 
 // What was read as one number: place + 2^16 * kind + 2^32 * value. The kind is 0 for a value, 1 for one out of range, 2 for a refusal.
+#[tactic(auto, unfolding(crate::specs::Vocabulary::Packed::packed_at, crate::specs::Vocabulary::Packed::packed_value))]
 fn pack(r: ReadValue) -> u64
     ensures { result ≡ Packed.packed_value r }
 {
@@ -47,6 +50,7 @@ fn pack(r: ReadValue) -> u64
     }
 }
 
+#[tactic(auto, unfolding(crate::specs::Vocabulary::Packed::around))]
 fn around(attrs: u8, locals: u8, object: u8, label: u32) -> Around
     ensures { result ≡ Packed.around attrs locals object label }
 {
@@ -63,6 +67,7 @@ fn around(attrs: u8, locals: u8, object: u8, label: u32) -> Around
 }
 
 #[unsafe(no_mangle)]
+#[tactic(auto, unfolding(crate::specs::Vocabulary::Packed::around, crate::specs::Vocabulary::Packed::packed_value, terms::specs::Vocabulary::Answers::as_value))]
 pub extern "C" fn probe_expression(
     s: &[u8],
     at: usize,
@@ -84,6 +89,7 @@ pub extern "C" fn probe_expression(
 }
 
 #[unsafe(no_mangle)]
+#[tactic(auto, unfolding(crate::specs::Vocabulary::Packed::around, crate::specs::Vocabulary::Packed::packed_value, terms::specs::Vocabulary::Answers::as_value))]
 pub extern "C" fn probe_guard(
     s: &[u8],
     at: usize,

@@ -1,1 +1,2 @@
 // Theorems over the definitions: nothing here runs.
+#![tactic(auto)]

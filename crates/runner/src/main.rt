@@ -1,4 +1,5 @@
 // The runner: "reads this from the file `model` and choices from standard input", and writes what the definition `runner` says of their bytes.
+#![tactic(auto)]
 ghost use Rattle.std.specs.Prelude.{true, ◌≡◌, ◌≤◌, length};
 ghost use Rattle.io.specs.Counts.{IsPrefixLen};
 ghost use Rattle.layout.specs.Layout as Layout;

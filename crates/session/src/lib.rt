@@ -1,1 +1,2 @@
 // A runner's session: choices from bytes, and the bytes that it writes.
+#![tactic(auto)]

@@ -1,4 +1,5 @@
 // Decimals, variables, expressions and guards, read straight from the text. Each reader works its value out while it reads.
+#![tactic(auto)]
 use layout::{Label, ObjectNumber};
 use whole::{Operator, Worked};
 
@@ -8,35 +9,35 @@ pub mod leaves;
 pub mod values;
 
 // A variable of a method: "a0..a7 below attrs, v0..v7 below locals".
-#[derive(Drop)]
+#[derive(Clone, Copy)]
 pub enum Variable {
     Attribute(u8),
     Local(u8),
 }
 
 // Where a term is worked out: the object, and the call that performs it.
-#[derive(Drop)]
+#[derive(Clone, Copy)]
 pub struct Here {
     pub object: ObjectNumber,
     pub label: Label,
 }
 
 // What a method's variables are below.
-#[derive(Drop)]
+#[derive(Clone, Copy)]
 pub struct Limits {
     pub attrs: usize,
     pub locals: usize,
 }
 
 // What a term is read in: what its variables are below, and where it is worked out.
-#[derive(Drop)]
+#[derive(Clone, Copy)]
 pub struct Around {
     pub limits: Limits,
     pub here: Here,
 }
 
 // "A factor is a decimal 0..2147483647, a variable, `self`, `caller`, or an expression in round brackets": its first byte tells which.
-#[derive(Drop)]
+#[derive(Clone, Copy)]
 pub enum Start {
     Decimal,
     Variable,
@@ -47,7 +48,7 @@ pub enum Start {
 }
 
 // "an atom is `wait`, a variable followed by `?`, an expression in square brackets, or a guard in round brackets": its first byte tells.
-#[derive(Drop)]
+#[derive(Clone, Copy)]
 pub enum AtomStart {
     Wait,
     Reply,
@@ -57,40 +58,40 @@ pub enum AtomStart {
 }
 
 // A byte as an operator, or none.
-#[derive(Drop)]
+#[derive(Clone, Copy)]
 pub enum OperatorFound {
     Nothing,
     Is(Operator),
 }
 
 // "conjunctions joined by `|`; a conjunction is atoms joined by `&`"
-#[derive(Drop)]
+#[derive(Clone, Copy)]
 pub enum Junction {
     Both,
     Either,
 }
 
 // Where a reading ended and what was read, or the place of the refusal: the first byte from which no continuation is valid.
-#[derive(Drop)]
+#[derive(Clone, Copy)]
 pub enum ReadNumber {
     Got(usize, u32),
     Bad(usize),
 }
 
-#[derive(Drop)]
+#[derive(Clone, Copy)]
 pub enum ReadVariable {
     Got(usize, Variable),
     Bad(usize),
 }
 
-#[derive(Drop)]
+#[derive(Clone, Copy)]
 pub enum ReadWord {
     Got(usize),
     Bad(usize),
 }
 
 // The same for an expression or a guard, with its value.
-#[derive(Drop)]
+#[derive(Clone, Copy)]
 pub enum ReadValue {
     Bad(usize),
     Got(usize, Worked),

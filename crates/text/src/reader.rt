@@ -17,6 +17,7 @@ pub struct Reader<'a> {
 }
 
 // A reader that stands at a place of a text.
+#[tactic(auto, using(crate::proofs::ReaderWalks::Walk, crate::proofs::ReaderWalks::and_local, crate::proofs::ReaderWalks::dies, crate::proofs::ReaderWalks::exits, crate::proofs::ReaderWalks::met, crate::proofs::ReaderWalks::placed, crate::proofs::ReaderWalks::shuts))]
 fn reader_at<'a>(text: &'a [u8], at: usize) -> Reader<'a>
     ensures { (result.text ≡ text.entry) × (result.at ≡ at) }
 {
@@ -24,6 +25,7 @@ fn reader_at<'a>(text: &'a [u8], at: usize) -> Reader<'a>
 }
 
 // The end of the line that begins where the reader stands.
+#[tactic(auto, using(crate::proofs::ReaderWalks::Walk, crate::proofs::ReaderWalks::and_local, crate::proofs::ReaderWalks::calls_known, crate::proofs::ReaderWalks::dies, crate::proofs::ReaderWalks::exits, crate::proofs::ReaderWalks::met, crate::proofs::ReaderWalks::opens, crate::proofs::ReaderWalks::placed, crate::proofs::ReaderWalks::reader, crate::proofs::ReaderWalks::values), unfolding(crate::specs::Vocabulary::LineEnds::sound_end))]
 fn line<'a>(reader: Reader<'a>) -> LineFound
     requires { reader.at ≤ length reader.text.now }
     ensures { result ≡ LineEnds.sound_end reader.entry.text.now reader.entry.at }
@@ -32,6 +34,7 @@ fn line<'a>(reader: Reader<'a>) -> LineFound
 }
 
 // The end of the line that begins at a place of a text.
+#[tactic(auto, using(crate::proofs::ReaderWalks::Walk, crate::proofs::ReaderWalks::and_local, crate::proofs::ReaderWalks::calls_known, crate::proofs::ReaderWalks::dies, crate::proofs::ReaderWalks::exits, crate::proofs::ReaderWalks::hands, crate::proofs::ReaderWalks::held, crate::proofs::ReaderWalks::makes, crate::proofs::ReaderWalks::met, crate::proofs::ReaderWalks::of_made, crate::proofs::ReaderWalks::placed, crate::proofs::ReaderWalks::reader, crate::proofs::ReaderWalks::values), unfolding(crate::specs::Vocabulary::LineEnds::sound_end))]
 pub fn line_at(text: &[u8], at: usize) -> LineFound
     requires { at ≤ length text.now }
     ensures { result ≡ LineEnds.sound_end text.now at }
@@ -40,6 +43,7 @@ pub fn line_at(text: &[u8], at: usize) -> LineFound
 }
 
 // The number that stands where the reader does, from its lowest to its highest, if an LF is behind it.
+#[tactic(auto, using(crate::proofs::ReaderWalks::Walk, crate::proofs::ReaderWalks::and_local, crate::proofs::ReaderWalks::bounds, crate::proofs::ReaderWalks::calls_known, crate::proofs::ReaderWalks::dies, crate::proofs::ReaderWalks::exits, crate::proofs::ReaderWalks::met, crate::proofs::ReaderWalks::opens, crate::proofs::ReaderWalks::placed, crate::proofs::ReaderWalks::reader, crate::proofs::ReaderWalks::values), unfolding(crate::specs::Vocabulary::KeyLines::fed_number, terms::specs::Vocabulary::Answers::as_number))]
 fn number<'a>(reader: Reader<'a>, lowest: u32, highest: u32) -> ReadNumber
     ensures { result ≡ Answers.as_number (KeyLines.fed_number lowest highest reader.entry.text.now reader.entry.at) }
 {
@@ -47,6 +51,7 @@ fn number<'a>(reader: Reader<'a>, lowest: u32, highest: u32) -> ReadNumber
 }
 
 // The same of the number at a place of a text.
+#[tactic(auto, using(crate::proofs::ReaderWalks::Walk, crate::proofs::ReaderWalks::and_local, crate::proofs::ReaderWalks::bounds, crate::proofs::ReaderWalks::calls_known, crate::proofs::ReaderWalks::dies, crate::proofs::ReaderWalks::exits, crate::proofs::ReaderWalks::hands, crate::proofs::ReaderWalks::held, crate::proofs::ReaderWalks::makes, crate::proofs::ReaderWalks::met, crate::proofs::ReaderWalks::of_made, crate::proofs::ReaderWalks::placed, crate::proofs::ReaderWalks::reader, crate::proofs::ReaderWalks::values), unfolding(crate::specs::Vocabulary::KeyLines::fed_number, terms::specs::Vocabulary::Answers::as_number))]
 pub fn number_at(text: &[u8], at: usize, lowest: u32, highest: u32) -> ReadNumber
     ensures { result ≡ Answers.as_number (KeyLines.fed_number lowest highest text.now at) }
 {

@@ -1,4 +1,6 @@
 // Whole numbers of 32 bits, worked out with the news that a result does not fit.
+#![tactic(auto)]
+
 ghost use Rattle.std.specs.Prelude.{◌≡◌, pos};
 ghost use Rattle.whole.specs.Whole as Whole;
 ghost use Rattle.whole.specs.Vocabulary.Naturals as Naturals;
@@ -8,7 +10,7 @@ ghost use Rattle.whole.specs.declared.Operator.TheVariants.{Plus, Minus, Times, 
 pub mod refusals;
 
 // The five operators of an expression.
-#[derive(Drop)]
+#[derive(Clone, Copy)]
 pub enum Operator {
     Plus,
     Minus,
@@ -19,20 +21,21 @@ pub enum Operator {
 
 // What working an expression out gives. What is none stands first, as in `OperatorFound` and `ReadValue`: with it last, a text of every
 // statement was judged in a twentieth more time.
-#[derive(Drop)]
+#[derive(Clone, Copy)]
 pub enum Worked {
     OutOfRange,
     Value(i32),
 }
 
 // A cell as a natural number, where it is one.
-#[derive(Drop)]
+#[derive(Clone, Copy)]
 pub enum Natural {
     Is(usize),
     Not,
 }
 
 // The same number in 64 bits, where no sum, difference or product of two values can overflow.
+#[tactic(auto, using(crate::proofs::Ranges::wide_fits))]
 fn wide(x: i32) -> i64
     ensures { result ≡ x }
 {
@@ -40,6 +43,7 @@ fn wide(x: i32) -> i64
 }
 
 // A result of 64 bits as a value, if it is one.
+#[tactic(auto, using(crate::proofs::Ranges::above_range, crate::proofs::Ranges::below_range, crate::proofs::Ranges::in_range_lem, crate::proofs::Ranges::within_range), unfolding(crate::specs::Whole::within))]
 fn within(z: i64) -> Worked
     ensures { result ≡ Whole.within z }
 {
@@ -59,18 +63,21 @@ pub fn truth(holds: bool) -> i32
     if holds { 1 } else { 0 }
 }
 
+#[tactic(auto, using(crate::proofs::Ranges::product_fits, crate::proofs::Ranges::read_back), unfolding(crate::specs::Whole::apply))]
 pub fn product(x: i32, y: i32) -> Worked
     ensures { result ≡ Whole.apply Times x y }
 {
     within(wide(x) * wide(y))
 }
 
+#[tactic(auto, unfolding(crate::specs::Whole::apply))]
 pub fn less(x: i32, y: i32) -> Worked
     ensures { result ≡ Whole.apply Less x y }
 {
     Worked::Value(truth(x < y))
 }
 
+#[tactic(auto, using(crate::proofs::Ranges::same_bits), unfolding(crate::specs::Whole::apply))]
 pub fn equal(x: i32, y: i32) -> Worked
     ensures { result ≡ Whole.apply Equal x y }
 {
@@ -79,6 +86,7 @@ pub fn equal(x: i32, y: i32) -> Worked
 
 // A second summand: what a minus takes away is added with the other sign. So a sum and a difference are one way through the code, and the
 // processor need not guess between them.
+#[tactic(auto, using(crate::proofs::Ranges::negative, crate::proofs::Ranges::negative_fits, crate::proofs::Ranges::read_back), unfolding(crate::specs::Vocabulary::Summands::summand))]
 fn summand(o: Operator, y: i32) -> i64
     ensures { result ≡ Summands.summand o y }
 {
@@ -89,6 +97,7 @@ fn summand(o: Operator, y: i32) -> i64
 }
 
 // What an operator gives of two numbers.
+#[tactic(auto, using(crate::proofs::Ranges::apply_handed, crate::proofs::Ranges::read_back, crate::proofs::Ranges::summand_back, crate::proofs::Ranges::total_fits), unfolding(crate::specs::Vocabulary::Summands::summand, crate::specs::Whole::apply))]
 pub fn apply(o: Operator, x: i32, y: i32) -> Worked
     ensures { result ≡ Whole.apply o x y }
 {
@@ -101,6 +110,7 @@ pub fn apply(o: Operator, x: i32, y: i32) -> Worked
 }
 
 // What an operator gives of what was worked out on its two sides.
+#[tactic(auto, using(crate::proofs::Ranges::apply_handed), unfolding(crate::specs::Whole::applied))]
 pub fn applied(o: Operator, left: Worked, right: Worked) -> Worked
     ensures { result ≡ Whole.applied o left right }
 {
@@ -114,12 +124,14 @@ pub fn applied(o: Operator, left: Worked, right: Worked) -> Worked
 }
 
 // "An expression is true when not 0."
+#[tactic(auto, using(crate::proofs::Ranges::same_bits), unfolding(crate::specs::Whole::is_true))]
 pub fn is_true(x: i32) -> bool
     ensures { result ≡ Whole.is_true x }
 {
     x != 0
 }
 
+#[tactic(auto, unfolding(crate::specs::Vocabulary::Naturals::as_natural, crate::specs::Whole::natural))]
 pub fn as_natural(z: i32) -> Natural
     ensures { result ≡ Naturals.as_natural (Whole.natural z) }
 {
@@ -130,6 +142,7 @@ pub fn as_natural(z: i32) -> Natural
 }
 
 // Whether a cell holds a number that is counted from 0.
+#[tactic(auto, using(crate::proofs::Ranges::natural_is, crate::proofs::Ranges::natural_not), unfolding(crate::specs::Whole::eq_z))]
 pub fn is_number(z: i32, n: u32) -> bool
     ensures { result ≡ Whole.eq_z z (pos n) }
 {
@@ -140,6 +153,7 @@ pub fn is_number(z: i32, n: u32) -> bool
 }
 
 // Whether a number lies between two, both included.
+#[tactic(auto, unfolding(crate::specs::Whole::between))]
 pub fn between(low: i32, high: i32, z: i32) -> bool
     ensures { result ≡ Whole.between low high z }
 {
