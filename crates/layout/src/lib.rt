@@ -1,5 +1,6 @@
 // The cells of a configuration by named places: object numbers and labels, their fields, and whose reply is in.
 #![tactic(auto)]
+
 ghost use Rattle.std.specs.Prelude.{◌≡◌, ◌≤◌, pos, get_or};
 ghost use Rattle.whole.specs.Whole as Whole;
 ghost use Rattle.layout.specs.Layout as Layout;

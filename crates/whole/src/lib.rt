@@ -124,7 +124,6 @@ pub fn applied(o: Operator, left: Worked, right: Worked) -> Worked
 }
 
 // "An expression is true when not 0."
-#[tactic(auto, using(crate::proofs::Ranges::same_bits), unfolding(crate::specs::Whole::is_true))]
 pub fn is_true(x: i32) -> bool
     ensures { result ≡ Whole.is_true x }
 {
