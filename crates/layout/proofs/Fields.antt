@@ -1,20 +1,19 @@
 -- A cell that was found is that of its place: what stands there, and a value put there. Assumes nothing.
 use Prim.Native.Nat.{ℕ, zero, suc, ◌+◌, ◌-◌, ◌*◌, ◌≤◌, ◌<◌}
-use mathlib.Core.Bool.{Bool, true, false, ◌&&◌}
+use mathlib.Core.Bool.{Bool, true, false}
 use mathlib.Core.List.{List, [], ◌∷◌, ◌++◌}
 use mathlib.Core.Option.{Option, none, some}
 use mathlib.Core.Path.{◌≡◌, refl, sym, ap, ap₂, ◌∙◌}
 use native.Mathlib.Numerals.{add-one}
 use native.Mathlib.Omega.{arith}
 use borrow.Author.Tests.{lt-ltb, le-ltb}
-use lib.Dec.{ltb}
 use lib.IntN.{ℤ, pos}
 use lib.ListN.{length, get_or, set, drop, length-set, drop_of_length-le}
 use lib.Seq.{drop-cons}
 use Rattle.whole.specs.Plain.{only_if}
 use Rattle.layout.specs.declared.CellFound.{CellFound}
 use Rattle.layout.specs.declared.CellFound.TheVariants as Cell
-use Rattle.layout.specs.Layout.{Cells, Place, call, is_row, stands, cell_of, read, write, Write, written, row_of, of_call, to_call, row_from}
+use Rattle.layout.specs.Layout.{Cells, Place, call, is_row, stands, cell_of, read, write, written, row_of, of_call, to_call, row_from}
 use Rattle.layout.specs.Vocabulary.Found.{as_cell, placed, call_placed, field_cell, held_at, put_at, row_to}
 
 -- the cell of a field, by the tests of row and field

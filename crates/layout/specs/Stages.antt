@@ -1,6 +1,6 @@
 -- "Stages: 1 invoked, 2 queued, 3 bound (or suspended), 4 running, 5 answered, 6 reply in, 7 taken." What the stages and the callers say of
 -- a number: whether it is an object or a label in use, and whether a reply is in. Assumes nothing.
-use Rattle.std.specs.Prelude.{ℕ, Bool, true, false, ◌&&◌, List, ℤ, pos}
+use Rattle.std.specs.Prelude.{ℕ, Bool, ◌&&◌, List, ℤ, pos}
 use Rattle.std.proofs.Math.Option.{Option, none, some}
 use Rattle.whole.specs.Plain.{only_if}
 use Rattle.whole.specs.Whole.{between, eq_z, nat}

@@ -1,6 +1,5 @@
 -- What the proofs of this crate and of those above it cite.
 mod Cases
-mod ReaderWalks
 pub mod Bringing
 pub mod Cutting
 pub mod KeyLines

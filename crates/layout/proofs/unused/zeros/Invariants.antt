@@ -1,5 +1,5 @@
-use Prim.Native.Nat.{◌-◌}
-use mathlib.Core.Path.{◌≡◌}
+-- `layout::unused::zeros`: what is left is zero exactly where all is, and one cell fewer is left.
+use Rattle.std.proofs.Common.{◌≡◌, ◌-◌}
 use Rattle.layout.specs.Vocabulary.Found.{zeros_in}
 use Rattle.layout.proofs.unused.zeros.Given as goal
 

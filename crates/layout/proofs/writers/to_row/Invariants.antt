@@ -1,6 +1,5 @@
-use Prim.Native.Nat.{◌+◌, ◌-◌, ◌≤◌}
-use lib.ListN.{length, drop}
-use mathlib.Core.Path.{◌≡◌}
+-- `layout::writers::to_row`: the values that are left, written from here, give what all of them give.
+use Rattle.std.proofs.Common.{◌≡◌, ◌+◌, ◌-◌, ◌≤◌, length, drop}
 use Rattle.layout.specs.Vocabulary.Found.{row_to}
 use Rattle.layout.proofs.writers.to_row.Given as goal
 
