@@ -1,7 +1,7 @@
 // The runner: "reads this from the file `model` and choices from standard input", and writes what the definition `runner` says of their bytes.
 #![tactic(auto)]
-ghost use Rattle.std.specs.Prelude.{true, ◌≡◌, ◌≤◌, length};
-ghost use Rattle.io.specs.Counts.{IsPrefixLen};
+
+ghost use Rattle.std.specs.Prelude.{true, ◌≡◌, ◌≤◌, length, take};
 ghost use Rattle.layout.specs.Layout as Layout;
 ghost use Rattle.model.specs.Vocabulary.Known as Known;
 ghost use Rattle.model.specs.Vocabulary.Table as Table;
@@ -12,8 +12,10 @@ ghost use Rattle.session.specs.Runner as Runner;
 ghost use Rattle.transcript.specs.Vocabulary.Front as Front;
 
 use entries::running;
-use libc::{STDIN_FILENO, STDOUT_FILENO};
 use model::table;
+use std::fs::File;
+use std::io;
+use std::io::{Read, Write};
 use transcript::{choices, reports};
 use whole::refusals;
 
@@ -22,6 +24,9 @@ const TEXT_ROOM: usize = 32769;
 
 // "2,370 cells"
 const ALL_CELLS: usize = 2370;
+
+// "Input past 4,096 bytes is not read."
+const INPUT_ROOM: usize = 4096;
 
 // An input of 4,096 bytes has no more choices.
 const MOST_CHOICES: usize = 4096;
@@ -72,7 +77,8 @@ fn played(
     requires in_bounds_2 { 82000 ≤ length out.old }
     ensures value { result ≡ length (Runner.runner text.now input.now) }
     ensures out_after { out.new ≡ Front.at_front (Runner.runner text.now input.now) out.old }
-    ensures prefix_len { IsPrefixLen result out.new }
+    ensures in_bounds { result ≤ length out.new }
+    ensures prefix { result ≡ length (take result out.new) }
 {
     let verdict = entries::start_in(text, table, shapes, cells);
     if verdict.number != refusals::ACCEPTED {
@@ -87,7 +93,8 @@ fn session(text: &[u8], input: &[u8], out: &mut [u8]) -> usize
     requires { 82000 ≤ length out.old }
     ensures value { result ≡ length (Runner.runner text.now input.now) }
     ensures out_after { out.new ≡ Front.at_front (Runner.runner text.now input.now) out.old }
-    ensures prefix_len { IsPrefixLen result out.new }
+    ensures in_bounds { result ≤ length out.new }
+    ensures prefix { result ≡ length (take result out.new) }
 {
     let mut rows = [0; table::SIZE];
     let mut shapes = [0; table::LINES];
@@ -104,26 +111,39 @@ fn session(text: &[u8], input: &[u8], out: &mut [u8]) -> usize
     )
 }
 
-// The bytes of the file `model`: "a missing model file reads as empty".
-fn read_model(text: &mut [u8]) -> usize
-    ensures { IsPrefixLen result text.new }
+// What a reader gives, at the front of the memory lent, and how many bytes: it is read until the memory is full, it ends, or a read fails.
+fn read_full<R: Read>(reader: &mut R, room: &mut [u8]) -> usize
+    ensures in_bounds { result ≤ length room.new }
+    ensures prefix { result ≡ length (take result room.new) }
 {
-    let fd = os::open_read(b"model");
-    if fd < 0 {
-        return 0;
+    let mut done = 0;
+    while done < room.len() {
+        match reader.read(&mut room[done..]) {
+            Ok(0) | Err(_) => return done,
+            Ok(n) => done += n,
+        }
     }
-    let long = io::read_full(fd, text);
-    libc::close(fd);
-    long
+    done
+}
+
+// The bytes of the file `model`: "a missing model file reads as empty".
+fn read_model(rt: &HostRuntime, text: &mut [u8]) -> usize
+    ensures in_bounds { result ≤ length text.new }
+    ensures prefix { result ≡ length (take result text.new) }
+{
+    match File::open(rt, "model") {
+        Ok(mut file) => read_full(&mut file, text),
+        Err(_) => 0,
+    }
 }
 
 // No contract can say what is read and what is written; `session` says what is made of the one for the other.
-fn main() {
+fn main(rt: HostRuntime) -> io::Result<()> {
     let mut text = [0u8; TEXT_ROOM];
-    let long = read_model(&mut text);
-    let mut input = io::buffer();
-    let given = io::read_full(STDIN_FILENO, &mut input);
+    let long = read_model(&rt, &mut text);
+    let mut input = [0u8; INPUT_ROOM];
+    let given = read_full(&mut rt.stdin(), &mut input);
     let mut out = [0u8; reports::ROOM];
     let written = session(&text[..long], &input[..given], &mut out);
-    io::write_all(STDOUT_FILENO, &out[..written]);
+    rt.stdout().write_all(&out[..written])
 }
