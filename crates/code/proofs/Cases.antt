@@ -7,7 +7,6 @@ use Rattle.terms.specs.Bytes.{Text, bytes}
 use Rattle.terms.specs.Vocabulary.Nothing.{nothing, guard_nothing}
 use Rattle.terms.specs.Parsed.{Parsed, got, bad, mapped}
 use Rattle.code.specs.declared.Shape.{Shape}
-use Rattle.code.specs.declared.Shape.TheVariants as Shape
 use Rattle.code.specs.Partners.{goes_to}
 use Rattle.code.specs.Reader.{statement}
 use Rattle.code.proofs.Open.{code_open}

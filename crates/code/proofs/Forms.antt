@@ -9,7 +9,6 @@ use Rattle.terms.specs.Expressions.{Reading}
 use Rattle.terms.specs.Guards.{GuardReading}
 use Rattle.terms.specs.Parsed.{bad, next, word, ended}
 use Rattle.code.specs.declared.Form.{Form}
-use Rattle.code.specs.declared.Form.TheVariants as Form
 use Rattle.code.specs.declared.FormFound.TheVariants as Form'
 use Rattle.code.specs.Vocabulary.Answers.{as_form}
 use Rattle.code.specs.Reader.{beginning, initials, form_of, word_of, rest, statement}

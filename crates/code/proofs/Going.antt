@@ -10,7 +10,6 @@ use Rattle.whole.specs.Vocabulary.Naturals.{as_natural}
 use Rattle.whole.specs.declared.Natural.TheVariants.{Is, Not}
 use Rattle.whole.proofs.Ranges.{natural_some, natural_none}
 use Rattle.code.specs.declared.Shape.{Shape}
-use Rattle.code.specs.declared.Shape.TheVariants as Shape
 use Rattle.code.specs.Blocks.{opening, closing, through_all}
 use Rattle.code.specs.Vocabulary.Shapes.{shape_at, shapes_in}
 use Rattle.code.specs.Vocabulary.Counting.{present, onward, backward}

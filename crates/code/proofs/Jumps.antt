@@ -9,7 +9,6 @@ use borrow.Author.Tests.{ltb-true, ltb-false}
 use lib.Dec.{ltb}
 use lib.ListN.{length, get_or, take, drop, drop_of_length-le}
 use Rattle.code.specs.declared.Shape.{Shape}
-use Rattle.code.specs.declared.Shape.TheVariants as Shape
 use Rattle.code.specs.Blocks.{Block, until_else, until_fi, until_od, shape_number, opening, closing, with, through_all}
 use Rattle.code.specs.Partners.{ahead, behind, goes_from, goes_to}
 use Rattle.code.specs.Vocabulary.Counting.{present, counted_on, onward, backward}

@@ -10,7 +10,6 @@ use borrow.Author.Tests.{eq-eqb}
 use lib.ListN.{length, get_or, take, drop, length-drop}
 use lib.Seq.{take-suc, drop-cons, get_or-drop}
 use Rattle.code.specs.declared.Shape.{Shape}
-use Rattle.code.specs.declared.Shape.TheVariants as Shape
 use Rattle.code.specs.Blocks.{Block, rank, opening, closing, through_all, all_closed, balanced}
 use Rattle.code.specs.Partners.{same_block, fits, lines_between, partners, first_from, last_below}
 use Rattle.code.proofs.Stacks.{false_true, all_below_lem}

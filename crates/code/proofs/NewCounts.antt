@@ -1,10 +1,10 @@
 -- A `new` names one of the classes, and has at most one argument more than its text has bytes. Assumes nothing.
-use Prim.Native.Nat.{ℕ, zero, suc, ◌+◌, ◌-◌, ◌≤◌, ◌<◌}
+use Prim.Native.Nat.{ℕ, ◌+◌, ◌-◌, ◌≤◌, ◌<◌}
 use Prim.Native.Char.{code}
 use mathlib.Core.Bool.{Bool, true, false}
-use mathlib.Core.List.{List, [], ◌∷◌, ◌++◌}
+use mathlib.Core.List.{List, [], ◌∷◌}
 use mathlib.Core.Option.{Option, none, some}
-use mathlib.Core.Path.{◌≡◌, refl, sym, ap, subst, ◌∙◌}
+use mathlib.Core.Path.{◌≡◌, refl, ap}
 use native.Mathlib.Omega.{arith}
 use lib.Dec.{eqb}
 use lib.ListN.{length, length-append}
@@ -12,11 +12,9 @@ use Rattle.terms.specs.declared.Limits.{Limits}
 use Rattle.terms.specs.Bytes.{Text, byte_at}
 use Rattle.terms.specs.Expressions.{Reading}
 use Rattle.terms.specs.Guards.{GuardReading}
-use Rattle.terms.specs.Leaves.{decimal}
-use Rattle.terms.specs.Parsed.{Parsed, got, bad, next, mapped, word, ended, repeated, joining}
+use Rattle.terms.specs.Parsed.{Parsed, got, bad, next, mapped, word, ended}
 use Rattle.terms.proofs.Gives.{Gives, gives_of, gives_then, gives_mapped, gives_any, gives_next, gives_decimal, gives_ended, gives_joining}
 use Rattle.code.specs.declared.Form.{Form}
-use Rattle.code.specs.declared.Form.TheVariants as Form
 use Rattle.code.specs.Statements.{new_of}
 use Rattle.code.specs.Reader.{word_of, form_of, comma, operand, listed, arguments, rest, statement}
 use Rattle.code.specs.Statements.{Statement, skip, set, new, call, get, await, if, else, fi, while, od, return}

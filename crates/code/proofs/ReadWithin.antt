@@ -17,7 +17,6 @@ use Rattle.terms.specs.Within.{VariableWithin, ExpressionWithin}
 use Rattle.terms.proofs.Gives.{Gives, gives_then, gives_mapped, gives_next, gives_closed, gives_ended, gives_decimal, gives_joining}
 use Rattle.terms.proofs.ReadWithin.{gives_variable, gives_expression, gives_guard, trees_keep, guard_trees_keep}
 use Rattle.code.specs.declared.Form.{Form}
-use Rattle.code.specs.declared.Form.TheVariants as Form
 use Rattle.code.specs.Reader.{word_of, form_of, comma, last_method, arguments_after, operand, listed, arguments, target, rest, statement}
 use Rattle.code.specs.Statements.{set, new, call, get, await, if, while, return}
 use Rattle.code.specs.Within.{CodeWithin}

@@ -1,6 +1,6 @@
 -- A map which respects the operations respects the reading of code values: the statement read with its values worked out is the statement
 -- of the trees read, worked out. Assumes nothing.
-use Prim.Native.Nat.{ℕ, ◌+◌, ◌-◌}
+use Prim.Native.Nat.{ℕ, ◌+◌}
 use Prim.Native.Char.{code}
 use mathlib.Core.Bool.{Bool, true, false}
 use mathlib.Core.List.{List, [], ◌∷◌, ◌++◌, map}
@@ -19,7 +19,6 @@ use Rattle.terms.specs.Values.{Surroundings, values, guard_values, value_of, gua
 use Rattle.terms.proofs.Following.{mapped_mapped, mapped_twice, mapped_got, mapped_bad, next_same, mapped_next, respects_next, respects_closed, respects_ended, respects_joining}
 use Rattle.terms.proofs.Respect.{Respects, GuardRespects, respects_expression, respects_guard, fold_respects, fold_guard_respects}
 use Rattle.code.specs.declared.Form.{Form}
-use Rattle.code.specs.declared.Form.TheVariants as Form
 use Rattle.code.specs.Statements.{Statement, skip, set, new, call, get, await, if, else, fi, while, od, return, map_statement}
 use Rattle.code.specs.Reader.{word_of, form_of, last_method, arguments_after, comma, operand, listed, arguments, target, rest, statement}
 

@@ -9,7 +9,6 @@ use native.Mathlib.Omega.{arith}
 use lib.ListN.{length, get_or, take, drop, drop_of_length-le}
 use lib.Seq.{take-suc, drop-cons, split_at}
 use Rattle.code.specs.declared.Shape.{Shape}
-use Rattle.code.specs.declared.Shape.TheVariants as Shape
 use Rattle.code.specs.Blocks.{Block, opening, closing, with, through_all}
 use Rattle.code.specs.Vocabulary.Counting.{present, counted_on, onward, backward}
 use Rattle.code.specs.Partners.{lines_between, partners, first_from, last_below, or_end, ahead, behind}

@@ -8,7 +8,6 @@ use denote.Enum.Declared.{tag_of}
 use types.Run.{OneOf}
 use lib.ListN.{length, get_or, length-map, get_or-eq_default}
 use Rattle.code.specs.declared.Shape.{Shape}
-use Rattle.code.specs.declared.Shape.TheVariants as Shape
 use Rattle.code.specs.Blocks.{shape_number}
 use Rattle.code.specs.Vocabulary.Shapes.{in_order, shape_at, shapes_in}
 use Rattle.code.specs.contracts.Shape.{the_type}

@@ -10,9 +10,7 @@ use Rattle.terms.specs.declared.Limits.{Limits}
 use Rattle.terms.specs.Leaves.{decimal, variable}
 use Rattle.terms.specs.Parsed.{Parsed, got, bad, next, mapped, word, ended, closed, repeated, joining}
 use Rattle.code.specs.declared.Form.{Form}
-use Rattle.code.specs.declared.Form.TheVariants as Form
 use Rattle.code.specs.declared.Valued.{Valued}
-use Rattle.code.specs.declared.Valued.TheVariants as Valued
 use Rattle.code.specs.Statements.{Statement, skip, set, new, call, get, await, if, else, fi, while, od, return}
 
 -- the word that a form begins with, with the space that follows it where the form has more

@@ -37,7 +37,7 @@ pub fn shape_of(statement: Statement) -> Shape
 }
 
 // The number of a shape, by which a method's lines are handed over.
-#[tactic(auto, using(crate::proofs::Shapes::of_each), unfolding(crate::specs::Blocks::shape_number, crate::specs::Vocabulary::Shapes::shape_at))]
+#[tactic(auto, unfolding(crate::specs::Blocks::shape_number))]
 pub fn shape_number(shape: Shape) -> u8
     ensures { result ≡ Blocks.shape_number shape }
 {
@@ -54,7 +54,7 @@ pub fn shape_number(shape: Shape) -> u8
 }
 
 // The open blocks with one more, the innermost.
-#[tactic(auto, using(crate::proofs::OpenBlocks::blocks_opened), unfolding(crate::specs::Vocabulary::OpenBlocks::as_blocks, crate::specs::Vocabulary::OpenBlocks::block_digit, crate::specs::Vocabulary::OpenBlocks::packed_blocks))]
+#[tactic(auto, using(crate::proofs::OpenBlocks::blocks_opened))]
 fn opened(digit: u32, blocks: u32) -> BlocksAfter
     requires digit_bound { digit < 4 }
     requires blocks_bound { blocks < 65536 }
@@ -64,7 +64,7 @@ fn opened(digit: u32, blocks: u32) -> BlocksAfter
 }
 
 // The open blocks without the innermost, which must have the digit.
-#[tactic(auto, using(crate::proofs::OpenBlocks::blocks_closed, crate::proofs::OpenBlocks::blocks_unmatched), unfolding(crate::specs::Blocks::without, crate::specs::Vocabulary::OpenBlocks::as_blocks, crate::specs::Vocabulary::OpenBlocks::block_digit, crate::specs::Vocabulary::OpenBlocks::packed_blocks))]
+#[tactic(auto, using(crate::proofs::OpenBlocks::blocks_closed, crate::proofs::OpenBlocks::blocks_unmatched))]
 fn without(digit: u32, blocks: u32) -> BlocksAfter
     ensures { (b : Blocks.Block) (bs : List Blocks.Block) → digit ≡ OpenBlocks.block_digit b → blocks ≡ OpenBlocks.packed_blocks bs → result ≡ OpenBlocks.as_blocks (Blocks.without (some b) bs) }
 {
@@ -75,7 +75,7 @@ fn without(digit: u32, blocks: u32) -> BlocksAfter
 }
 
 // The open blocks after an `else`: the innermost must wait for it, and waits for its `fi` from here on.
-#[tactic(auto, using(crate::proofs::OpenBlocks::else_matched, crate::proofs::OpenBlocks::else_unmatched), unfolding(crate::specs::Blocks::through, crate::specs::Vocabulary::OpenBlocks::as_blocks, crate::specs::Vocabulary::OpenBlocks::packed_blocks))]
+#[tactic(auto, using(crate::proofs::OpenBlocks::else_matched, crate::proofs::OpenBlocks::else_unmatched))]
 fn past_else(blocks: u32) -> BlocksAfter
     requires { blocks < 65536 }
     ensures { (bs : List Blocks.Block) → blocks ≡ OpenBlocks.packed_blocks bs → result ≡ OpenBlocks.as_blocks (Blocks.through Shape.Else bs) }
@@ -87,7 +87,7 @@ fn past_else(blocks: u32) -> BlocksAfter
 }
 
 // The open blocks after a line.
-#[tactic(auto, using(crate::proofs::OpenBlocks::after_fi, crate::proofs::OpenBlocks::after_if, crate::proofs::OpenBlocks::after_od, crate::proofs::OpenBlocks::after_while, crate::proofs::Shapes::of_each), unfolding(crate::specs::Blocks::closing, crate::specs::Blocks::opening, crate::specs::Blocks::rank, crate::specs::Blocks::through, crate::specs::Blocks::with, crate::specs::Blocks::without, crate::specs::Vocabulary::OpenBlocks::as_blocks, crate::specs::Vocabulary::OpenBlocks::block_digit, crate::specs::Vocabulary::OpenBlocks::packed_blocks, crate::specs::Vocabulary::Shapes::shape_at))]
+#[tactic(auto, using(crate::proofs::OpenBlocks::after_fi, crate::proofs::OpenBlocks::after_od), unfolding(crate::specs::Blocks::closing, crate::specs::Blocks::opening, crate::specs::Blocks::rank, crate::specs::Blocks::through, crate::specs::Blocks::with, crate::specs::Blocks::without, crate::specs::Vocabulary::OpenBlocks::as_blocks, crate::specs::Vocabulary::OpenBlocks::block_digit))]
 pub fn through(shape: Shape, blocks: u32) -> BlocksAfter
     requires { blocks < 65536 }
     ensures { (bs : List Blocks.Block) → blocks ≡ OpenBlocks.packed_blocks bs → result ≡ OpenBlocks.as_blocks (Blocks.through shape bs) }

@@ -1,5 +1,6 @@
 // Code values: statements, and the partners of the lines that open and close blocks.
 #![tactic(auto)]
+
 use terms::{ReadWord, Variable};
 use whole::Worked;
 

@@ -28,7 +28,7 @@ fn shape_at(number: u8) -> Shape
 }
 
 // Whether a line closes a block.
-#[tactic(auto, using(crate::proofs::Shapes::of_each), unfolding(crate::specs::Blocks::closing, crate::specs::Vocabulary::Counting::present, crate::specs::Vocabulary::Shapes::shape_at))]
+#[tactic(auto, unfolding(crate::specs::Blocks::closing, crate::specs::Vocabulary::Counting::present))]
 fn closes(shape: Shape) -> bool
     ensures { result ≡ Counting.present (Blocks.closing shape) }
 {
@@ -39,7 +39,7 @@ fn closes(shape: Shape) -> bool
 }
 
 // Whether a line opens a block.
-#[tactic(auto, using(crate::proofs::Shapes::of_each), unfolding(crate::specs::Blocks::opening, crate::specs::Vocabulary::Counting::present, crate::specs::Vocabulary::Shapes::shape_at))]
+#[tactic(auto, unfolding(crate::specs::Blocks::opening, crate::specs::Vocabulary::Counting::present))]
 fn opens(shape: Shape) -> bool
     ensures { result ≡ Counting.present (Blocks.opening shape) }
 {
@@ -50,7 +50,7 @@ fn opens(shape: Shape) -> bool
 }
 
 // The count after a line that leaves a block or not and enters one or not; none where it leaves the block that was counted from.
-#[tactic(auto, using(crate::proofs::Counting::counted_across, crate::proofs::Counting::counted_down, crate::proofs::Counting::counted_level, crate::proofs::Counting::counted_out, crate::proofs::Counting::counted_up), unfolding(crate::specs::Vocabulary::Counting::counted_on, whole::specs::Vocabulary::Naturals::as_natural))]
+#[tactic(auto, using(crate::proofs::Counting::counted_across, crate::proofs::Counting::counted_down, crate::proofs::Counting::counted_level, crate::proofs::Counting::counted_out, crate::proofs::Counting::counted_up), unfolding(whole::specs::Vocabulary::Naturals::as_natural))]
 fn counted(leaves: bool, enters: bool, count: usize) -> Natural
     requires { count < 2 ^ 63 }
     ensures { result ≡ Naturals.as_natural (Counting.counted_on leaves enters count) }
@@ -71,7 +71,7 @@ fn counted(leaves: bool, enters: bool, count: usize) -> Natural
 }
 
 // The count after a line, met from an earlier line on.
-#[tactic(auto, using(crate::proofs::Counting::counted_onward), unfolding(crate::specs::Vocabulary::Counting::onward, crate::specs::Vocabulary::Shapes::shape_at, whole::specs::Vocabulary::Naturals::as_natural))]
+#[tactic(auto, using(crate::proofs::Counting::counted_onward))]
 fn onward(line: u8, count: usize) -> Natural
     requires { count < 2 ^ 63 }
     ensures { result ≡ Naturals.as_natural (Counting.onward (Shapes.shape_at line) count) }
@@ -81,7 +81,7 @@ fn onward(line: u8, count: usize) -> Natural
 }
 
 // The count after a line, met back from a later line.
-#[tactic(auto, using(crate::proofs::Counting::counted_backward), unfolding(crate::specs::Vocabulary::Counting::backward, crate::specs::Vocabulary::Shapes::shape_at, whole::specs::Vocabulary::Naturals::as_natural))]
+#[tactic(auto, using(crate::proofs::Counting::counted_backward))]
 fn backward(line: u8, count: usize) -> Natural
     requires { count < 2 ^ 63 }
     ensures { result ≡ Naturals.as_natural (Counting.backward (Shapes.shape_at line) count) }
@@ -91,7 +91,7 @@ fn backward(line: u8, count: usize) -> Natural
 }
 
 // The line after the partner of a line that opens a block.
-#[tactic(auto, using(crate::proofs::Going::begins_onward, crate::proofs::Going::ends_onward, crate::proofs::Going::goes_onward, crate::proofs::Going::met_onward, crate::proofs::Going::onward_most), unfolding(crate::specs::Blocks::opening, crate::specs::Blocks::through_all, crate::specs::Partners::ahead, crate::specs::Vocabulary::Counting::present, crate::specs::Vocabulary::Shapes::shape_at, crate::specs::Vocabulary::Shapes::shapes_in))]
+#[tactic(auto, using(crate::proofs::Going::begins_onward))]
 fn past_partner(lines: &[u8], i: usize) -> usize
     requires i_in_bounds { i < length lines.now }
     requires lines_value { Blocks.through_all (Shapes.shapes_in lines.now) [] ≡ some [] }
@@ -111,7 +111,7 @@ fn past_partner(lines: &[u8], i: usize) -> usize
 }
 
 // The partner of a line that closes a block.
-#[tactic(auto, using(crate::proofs::Going::backward_most, crate::proofs::Going::begins_backward, crate::proofs::Going::ends_backward, crate::proofs::Going::goes_backward, crate::proofs::Going::met_backward), unfolding(crate::specs::Blocks::closing, crate::specs::Blocks::through_all, crate::specs::Partners::behind, crate::specs::Vocabulary::Counting::present, crate::specs::Vocabulary::Shapes::shape_at, crate::specs::Vocabulary::Shapes::shapes_in))]
+#[tactic(auto, using(crate::proofs::Going::backward_most, crate::proofs::Going::begins_backward, crate::proofs::Going::goes_backward))]
 fn partner_before(lines: &[u8], i: usize) -> usize
     requires i_in_bounds { i < length lines.now }
     requires lines_value { Blocks.through_all (Shapes.shapes_in lines.now) [] ≡ some [] }
@@ -131,7 +131,7 @@ fn partner_before(lines: &[u8], i: usize) -> usize
 }
 
 // The line that a line of a whole method goes to, by the numbers of its lines' shapes.
-#[tactic(auto, using(crate::proofs::Going::goes_by, crate::proofs::Shapes::of_each), unfolding(crate::specs::Blocks::closing, crate::specs::Blocks::opening, crate::specs::Blocks::through_all, crate::specs::Partners::goes_from, crate::specs::Partners::goes_to, crate::specs::Vocabulary::Counting::present, crate::specs::Vocabulary::Shapes::shape_at, crate::specs::Vocabulary::Shapes::shapes_in))]
+#[tactic(auto, using(crate::proofs::Going::goes_by), unfolding(crate::specs::Blocks::closing, crate::specs::Blocks::opening, crate::specs::Partners::goes_from, crate::specs::Partners::goes_to, crate::specs::Vocabulary::Counting::present, crate::specs::Vocabulary::Shapes::shape_at, crate::specs::Vocabulary::Shapes::shapes_in))]
 pub fn goes_to(lines: &[u8], i: usize) -> usize
     requires i_in_bounds { i < length lines.now }
     requires lines_value { Blocks.through_all (Shapes.shapes_in lines.now) [] ≡ some [] }

@@ -153,7 +153,7 @@ fn word_of(form: Form, s: &[u8]) -> ReadWord
 }
 
 // A variable and a space.
-#[tactic(auto, using(terms::proofs::Answers::variable_bad, terms::proofs::Answers::variable_got, terms::proofs::Moving::within_text, terms::proofs::Nesting::closing_bad, terms::proofs::Nesting::closing_got, terms::proofs::Nesting::closing_none), unfolding(terms::specs::Leaves::variable, terms::specs::Parsed::closed, terms::specs::Vocabulary::Answers::as_variable))]
+#[tactic(auto, using(terms::proofs::Moving::within_text))]
 fn target(limits: Limits, s: &[u8], at: usize) -> ReadVariable
     ensures { result ≡ as_variable (closed 32 s.now (Leaves.variable limits s.now at)) }
 {
@@ -170,7 +170,7 @@ fn target(limits: Limits, s: &[u8], at: usize) -> ReadVariable
 }
 
 // The arguments after some, at most so many.
-#[tactic(auto, using(crate::proofs::Gathering::comma_none, crate::proofs::Gathering::comma_some, crate::proofs::Gathering::comma_zero, crate::proofs::Gathering::one_more_lem, terms::proofs::Answers::value_bad, terms::proofs::Answers::value_got, terms::proofs::Series::counted_fail, terms::proofs::Series::counted_go, terms::proofs::Series::joined_stop, terms::proofs::Series::operator_within), unfolding(crate::specs::Vocabulary::Answers::as_list, terms::specs::Parsed::repeated))]
+#[tactic(auto, using(crate::proofs::Gathering::comma_none, crate::proofs::Gathering::comma_some, crate::proofs::Gathering::comma_zero, terms::proofs::Answers::value_bad, terms::proofs::Series::counted_fail, terms::proofs::Series::joined_stop, terms::proofs::Series::operator_within), unfolding(crate::specs::Vocabulary::Answers::as_list, terms::specs::Parsed::repeated))]
 fn gathered(
     s: &[u8],
     at: usize,
@@ -213,7 +213,7 @@ fn gathered(
 }
 
 // A space and a list of arguments, with at most so many after the first; or neither.
-#[tactic(auto, using(crate::proofs::Gathering::arguments_bad, crate::proofs::Gathering::arguments_got, crate::proofs::Gathering::arguments_none, crate::proofs::Gathering::one_more_lem, terms::proofs::Answers::value_bad, terms::proofs::Answers::value_got, terms::proofs::Moving::within_text), unfolding(crate::specs::Vocabulary::Answers::as_list, crate::specs::Vocabulary::Answers::no_arguments))]
+#[tactic(auto, using(crate::proofs::Gathering::arguments_bad, crate::proofs::Gathering::arguments_got, crate::proofs::Gathering::arguments_none, terms::proofs::Answers::value_bad, terms::proofs::Answers::value_got, terms::proofs::Moving::within_text), unfolding(crate::specs::Vocabulary::Answers::as_list, crate::specs::Vocabulary::Answers::no_arguments))]
 fn arguments(s: &[u8], at: usize, more: usize, cells: &[i32], around: Around) -> ReadList
     requires { more + 3 < 2 ^ 64 }
     ensures { result ≡ Answers.as_list (Readers.arguments_read cells.now around 0 s.now more at) }
@@ -234,7 +234,6 @@ fn arguments(s: &[u8], at: usize, more: usize, cells: &[i32], around: Around) ->
 }
 
 // A statement without arguments that was read up to a place.
-#[tactic(auto, unfolding(crate::specs::Vocabulary::Answers::finished, crate::specs::Vocabulary::Answers::no_arguments))]
 fn plain(s: &[u8], at: usize, statement: Statement) -> ReadCode
     ensures { result ≡ Answers.finished s.now at statement Answers.no_arguments }
 {
@@ -242,7 +241,7 @@ fn plain(s: &[u8], at: usize, statement: Statement) -> ReadCode
 }
 
 // A form that is a word and an expression.
-#[tactic(auto, using(crate::proofs::Ending::put_read, crate::proofs::Ending::put_refused, terms::proofs::Answers::value_bad, terms::proofs::Answers::value_got), unfolding(crate::specs::Vocabulary::Answers::arguments_of, crate::specs::Vocabulary::Answers::as_code, crate::specs::Vocabulary::Answers::as_statement, terms::specs::Parsed::ended, terms::specs::Parsed::mapped))]
+#[tactic(auto, using(crate::proofs::Ending::put_refused, terms::proofs::Answers::value_bad))]
 fn valued(form: Valued, s: &[u8], at: usize, cells: &[i32], around: Around) -> ReadCode
     ensures { result ≡ Answers.as_code (ended s.now (mapped (Reader.valued form) (expression_read cells.now around s.now brackets at))) }
 {
@@ -257,7 +256,7 @@ fn valued(form: Valued, s: &[u8], at: usize, cells: &[i32], around: Around) -> R
 }
 
 // "set X E"
-#[tactic(auto, using(crate::proofs::Ending::next_read, crate::proofs::Ending::next_refused, crate::proofs::Ending::put_read, crate::proofs::Ending::put_refused, terms::proofs::Answers::value_bad, terms::proofs::Answers::value_got, terms::proofs::Answers::variable_bad, terms::proofs::Answers::variable_got), unfolding(crate::specs::Reader::operand, crate::specs::Reader::rest, crate::specs::Reader::target, crate::specs::Vocabulary::Answers::arguments_of, crate::specs::Vocabulary::Answers::as_statement))]
+#[tactic(auto, using(crate::proofs::Ending::next_refused, terms::proofs::Answers::variable_bad), unfolding(crate::specs::Reader::rest, crate::specs::Reader::target))]
 fn set_form(s: &[u8], at: usize, cells: &[i32], around: Around) -> ReadCode
     ensures { result ≡ Readers.rest_read cells.now around 0 s.now Form.Set at }
 {
@@ -277,7 +276,7 @@ fn set_form(s: &[u8], at: usize, cells: &[i32], around: Around) -> ReadCode
 }
 
 // "get X Y"
-#[tactic(auto, using(crate::proofs::Ending::next_read, crate::proofs::Ending::next_refused, crate::proofs::Ending::put_read, crate::proofs::Ending::put_refused, terms::proofs::Answers::variable_bad, terms::proofs::Answers::variable_got), unfolding(crate::specs::Reader::rest, crate::specs::Reader::target, crate::specs::Vocabulary::Answers::arguments_of, crate::specs::Vocabulary::Answers::as_statement))]
+#[tactic(auto, using(crate::proofs::Ending::next_refused, terms::proofs::Answers::variable_bad), unfolding(crate::specs::Reader::rest, crate::specs::Reader::target))]
 fn get_form(s: &[u8], at: usize, cells: &[i32], around: Around) -> ReadCode
     ensures { result ≡ Readers.rest_read cells.now around 0 s.now Form.Get at }
 {
@@ -291,7 +290,7 @@ fn get_form(s: &[u8], at: usize, cells: &[i32], around: Around) -> ReadCode
 }
 
 // "await G"
-#[tactic(auto, using(crate::proofs::Ending::put_read, crate::proofs::Ending::put_refused, terms::proofs::Answers::value_bad, terms::proofs::Answers::value_got), unfolding(crate::specs::Reader::rest, crate::specs::Vocabulary::Answers::arguments_of, crate::specs::Vocabulary::Answers::as_statement))]
+#[tactic(auto, using(crate::proofs::Ending::put_refused, terms::proofs::Answers::value_bad), unfolding(crate::specs::Reader::rest))]
 fn await_form(s: &[u8], at: usize, cells: &[i32], around: Around) -> ReadCode
     ensures { result ≡ Readers.rest_read cells.now around 0 s.now Form.Await at }
 {
@@ -302,7 +301,7 @@ fn await_form(s: &[u8], at: usize, cells: &[i32], around: Around) -> ReadCode
 }
 
 // "new X K" or "new X K E,..": a class below `classes`, and any number of arguments.
-#[tactic(auto, using(crate::proofs::Ending::next_read, crate::proofs::Ending::next_refused, crate::proofs::Listing::any_classes, crate::proofs::Listing::listed_is, terms::proofs::Answers::number_bad, terms::proofs::Answers::number_got, terms::proofs::Answers::variable_bad, terms::proofs::Answers::variable_got), unfolding(crate::specs::Reader::rest, crate::specs::Reader::target, crate::specs::Vocabulary::Answers::arguments_of, crate::specs::Vocabulary::Answers::as_statement))]
+#[tactic(auto, using(crate::proofs::Ending::next_refused, terms::proofs::Answers::variable_bad), unfolding(crate::specs::Reader::rest, crate::specs::Reader::target))]
 fn new_form(s: &[u8], at: usize, classes: u32, cells: &[i32], around: Around) -> ReadCode
     requires { 0 < classes }
     ensures { result ≡ Readers.rest_read cells.now around classes s.now Form.New at }
@@ -324,7 +323,7 @@ fn new_form(s: &[u8], at: usize, classes: u32, cells: &[i32], around: Around) ->
 }
 
 // A statement that is read up to its arguments, with at most so many after the first.
-#[tactic(auto, using(crate::proofs::Ending::list_bad, crate::proofs::Ending::list_got, crate::proofs::Listing::listed_bad, crate::proofs::Listing::listed_got), unfolding(crate::specs::Vocabulary::Readers::listed_read))]
+#[tactic(auto, using(crate::proofs::Ending::list_bad, crate::proofs::Ending::list_got, crate::proofs::Listing::listed_bad, crate::proofs::Listing::listed_got))]
 fn listed(
     s: &[u8],
     at: usize,
@@ -345,7 +344,7 @@ fn listed(
 }
 
 // An expression and a space.
-#[tactic(auto, using(terms::proofs::Answers::value_bad, terms::proofs::Answers::value_got, terms::proofs::Moving::within_text, terms::proofs::Nesting::closing_bad, terms::proofs::Nesting::closing_got, terms::proofs::Nesting::closing_none), unfolding(terms::specs::Parsed::closed, terms::specs::Vocabulary::Answers::as_value))]
+#[tactic(auto, using(terms::proofs::Moving::within_text))]
 fn spaced(s: &[u8], at: usize, cells: &[i32], around: Around) -> ReadValue
     ensures { result ≡ as_value (closed 32 s.now (expression_read cells.now around s.now brackets at)) }
 {
@@ -362,7 +361,7 @@ fn spaced(s: &[u8], at: usize, cells: &[i32], around: Around) -> ReadValue
 }
 
 // "call X E J" or "call X E J E,..": 0 to 4 arguments.
-#[tactic(auto, using(crate::proofs::Ending::next_read, crate::proofs::Ending::next_refused, terms::proofs::Answers::value_bad, terms::proofs::Answers::value_got, terms::proofs::Answers::variable_bad, terms::proofs::Answers::variable_got), unfolding(crate::specs::Reader::operand, crate::specs::Reader::rest, crate::specs::Reader::target))]
+#[tactic(auto, using(crate::proofs::Ending::next_refused, terms::proofs::Answers::variable_bad), unfolding(crate::specs::Reader::rest, crate::specs::Reader::target))]
 fn call_form(s: &[u8], at: usize, cells: &[i32], around: Around) -> ReadCode
     ensures { result ≡ Readers.rest_read cells.now around 0 s.now Form.Call at }
 {
@@ -376,7 +375,7 @@ fn call_form(s: &[u8], at: usize, cells: &[i32], around: Around) -> ReadCode
 }
 
 // The method of a `call`, and its arguments.
-#[tactic(auto, using(crate::proofs::Ending::next_read, crate::proofs::Ending::next_refused, crate::proofs::Listing::listed_is, terms::proofs::Answers::number_bad, terms::proofs::Answers::number_got), unfolding(crate::specs::Vocabulary::Answers::arguments_of, crate::specs::Vocabulary::Answers::as_statement))]
+#[tactic(auto, using(crate::proofs::Ending::next_refused, terms::proofs::Answers::number_bad))]
 fn method(
     s: &[u8],
     at: usize,
@@ -401,7 +400,7 @@ fn method(
 }
 
 // What follows the word of a form.
-#[tactic(auto, using(crate::proofs::Ending::code_got), unfolding(crate::specs::Reader::arguments, crate::specs::Reader::listed, crate::specs::Reader::operand, crate::specs::Reader::target, crate::specs::Vocabulary::Answers::arguments_of, crate::specs::Vocabulary::Answers::as_statement))]
+#[tactic(auto, unfolding(crate::specs::Reader::arguments, crate::specs::Reader::listed, crate::specs::Reader::operand, crate::specs::Reader::rest, crate::specs::Reader::target))]
 fn rest(form: Form, s: &[u8], at: usize, classes: u32, cells: &[i32], around: Around) -> ReadCode
     requires { 0 < classes }
     ensures { result ≡ Readers.rest_read cells.now around classes s.now form at }
@@ -423,7 +422,7 @@ fn rest(form: Form, s: &[u8], at: usize, classes: u32, cells: &[i32], around: Ar
 }
 
 // A code value: the statement that it is, with its values worked out, or the place of its refusal.
-#[tactic(auto, using(crate::proofs::Ending::next_read, crate::proofs::Ending::next_refused, crate::proofs::Forms::form_none, crate::proofs::Forms::form_some, crate::proofs::Forms::statement_none, crate::proofs::Forms::statement_some, terms::proofs::Answers::word_bad, terms::proofs::Answers::word_got), unfolding(crate::specs::Vocabulary::Answers::as_code))]
+#[tactic(auto, using(crate::proofs::Forms::form_none, crate::proofs::Forms::statement_none), unfolding(crate::specs::Vocabulary::Answers::as_code))]
 pub fn statement(s: &[u8], classes: u32, cells: &[i32], around: Around) -> ReadCode
     requires { 0 < classes }
     ensures { result ≡ Readers.statement_read cells.now around classes s.now }

@@ -1,11 +1,10 @@
 -- Vocabulary of the code: the class that a `new` names and how many arguments it has, by the statement and by what the code read of it. Assumes nothing.
-use Rattle.std.specs.Prelude.{ℕ, length}
+use Rattle.std.specs.Prelude.{ℕ}
 use Rattle.std.proofs.Math.Option.{Option, none, some}
 use Rattle.code.specs.declared.NewFound.{NewFound}
 use Rattle.code.specs.declared.NewFound.TheVariants as New
 use Rattle.code.specs.declared.Statement as Declared
 use Rattle.code.specs.declared.Statement.TheVariants as Said
-use Rattle.code.specs.Statements.{Statement, skip, set, new, call, get, await, if, else, fi, while, od, return}
 
 -- the same of a statement beside which so many arguments stand
 unfoldable pub new_said : Declared.Statement → ℕ → Option (ℕ × ℕ)

@@ -5,7 +5,6 @@ use Rattle.std.proofs.Math.Option.{Option, none, some}
 use Rattle.code.specs.declared.BlocksAfter.{BlocksAfter}
 use Rattle.code.specs.declared.BlocksAfter.TheVariants as After
 use Rattle.code.specs.declared.Shape.{Shape}
-use Rattle.code.specs.declared.Shape.TheVariants as Shape
 use Rattle.code.specs.declared.Statement as Declared
 use Rattle.code.specs.declared.Statement.TheVariants as Said
 use Rattle.code.specs.Blocks.{Block, rank}

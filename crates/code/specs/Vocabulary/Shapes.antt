@@ -1,7 +1,6 @@
 -- Vocabulary of the code: the shapes of a method's lines as numbers. Assumes nothing.
 use Rattle.std.specs.Prelude.{ℕ, List, [], ◌∷◌, map, get_or}
 use Rattle.code.specs.declared.Shape.{Shape}
-use Rattle.code.specs.declared.Shape.TheVariants as Shape
 
 -- the shape of a number, as a method's lines are handed to the code; a number of no shape is a plain line
 abbrev pub in_order : List Shape
