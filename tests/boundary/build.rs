@@ -1,8 +1,8 @@
 //! Links the proved libraries that are there, finds the proved program, and tells the
 //! code which of them are there.
 //!
-//! `rt staticlib NAME` in the repository's root writes `target/staticlib/libNAME.a`, and
-//! `rt check NAME` writes the program `target/bin/NAME`. One that is missing leaves its
+//! `rt lib` in crates/NAME writes `crates/NAME/out/libNAME.a`, and `rt run` in
+//! crates/NAME the program `crates/NAME/out/NAME`. One that is missing leaves its
 //! tests out, so that the others can be run without it. One that CREOL_REQUIRE names
 //! must be there: a gate names those that it builds, and then cannot pass by leaving
 //! their tests out.
@@ -17,17 +17,17 @@ fn main() {
     println!("cargo:rerun-if-changed=build.rs");
     println!("cargo:rerun-if-env-changed=CREOL_REQUIRE");
     let package = env::var("CARGO_MANIFEST_DIR").expect("cargo names the package's directory");
-    let target = Path::new(&package).join("../../target");
-    let directory = target.join("staticlib");
-    println!("cargo:rustc-link-search=native={}", directory.display());
+    let crates = Path::new(&package).join("../../crates");
     for name in LIBRARIES {
+        let directory = crates.join(name).join("out");
+        println!("cargo:rustc-link-search=native={}", directory.display());
         let archive = directory.join(format!("lib{name}.a"));
-        if is_there(name, &archive, "staticlib") {
+        if is_there(name, &archive, "lib") {
             println!("cargo:rustc-link-lib=static={name}");
         }
     }
-    let program = target.join("bin").join(PROGRAM);
-    if is_there(PROGRAM, &program, "check") {
+    let program = crates.join(PROGRAM).join("out").join(PROGRAM);
+    if is_there(PROGRAM, &program, "run") {
         println!("cargo:rustc-env=CREOL_RUNNER={}", program.display());
     }
 }
@@ -43,7 +43,7 @@ fn is_there(name: &str, file: &Path, command: &str) -> bool {
     }
     if required.split_whitespace().any(|word| word == name) {
         panic!(
-            "{} is missing: run `rt {command} {name}` in the repository's root",
+            "{} is missing: run `rt {command}` in crates/{name}",
             file.display()
         );
     }

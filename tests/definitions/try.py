@@ -50,18 +50,16 @@ def stripped(crate):
 
 def copied(to):
     """A copy of the repository's crates, those that are tried stripped of code and laws."""
-    shutil.copytree(ROOT / "crates", to / "crates")
+    shutil.copytree(ROOT / "crates", to / "crates", ignore=shutil.ignore_patterns("out"))
     shutil.copy(ROOT / "crates.txt", to / "crates.txt")
-    if (ROOT / "target").is_dir():
-        shutil.copytree(ROOT / "target", to / "target")
     for name in TRIED:
         stripped(to / "crates" / name)
 
 
 def checked(root, crate):
     """Whether a crate is proved, whether its definitions are taken, and what was refused."""
-    run = subprocess.run(["rt", "dev", crate], cwd=root, capture_output=True, text=True)
-    said = re.findall(r"/(specs|proofs)/([\w/]+)\.antt:\d+:\d+: error: `?([\w-]+)`?", run.stdout + run.stderr)
+    run = subprocess.run(["rt", "check"], cwd=root / "crates" / crate, capture_output=True, text=True)
+    said = re.findall(r"/(specs|proofs)/([\w/]+)\.antt:\d+:\d+: error: `?([\w'-]+)`?", run.stdout + run.stderr)
     fits = not any(folder == "specs" for folder, _, _ in said)
     return run.returncode == 0, fits, [f"{file}, {name}" for _, file, name in said]
 

@@ -28,7 +28,7 @@ const REFUSED: usize = 30;
 
 fn main() {
     let Some(proved) = Entries::linked() else {
-        println!("libcreol.a is missing: run `rt staticlib creol` in the repository's root");
+        println!("libcreol.a is missing: run `rt lib` in crates/creol");
         return;
     };
     let engines = [proved, Entries::INDEPENDENT];

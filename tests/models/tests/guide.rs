@@ -53,7 +53,7 @@ fn by_a_program_that_stands_in_for_the_runner() {
 #[cfg(have_runner)]
 #[test]
 fn by_the_runner() {
-    by_program(&root().join("target/bin/runner"));
+    by_program(&root().join("crates/runner/out/runner"));
 }
 
 #[test]
