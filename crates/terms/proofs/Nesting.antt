@@ -1,12 +1,10 @@
 -- What closes a bracket, what stands in one, and the number that falls at each call of a reader. Assumes nothing.
 use Prim.Native.Nat.{ℕ, zero, suc, ◌+◌, ◌-◌, ◌*◌, ◌≤◌, ◌<◌}
-use mathlib.Core.List.{List, [], ◌∷◌}
+use mathlib.Core.List.{[], ◌∷◌}
 use mathlib.Core.Path.{◌≡◌, refl, sym, ap, ◌∙◌}
 use native.Mathlib.Nat.{suc-mul}
 use native.Mathlib.Omega.{arith}
 use borrow.Author.Tests.{eq-eqb, ne_eqb}
-use borrow.Fn.Kinds.{ParamKind, In}
-use borrow.Fn.PlainCycle.{Measures, is, falls, and}
 use Rattle.whole.specs.declared.Worked.{Worked}
 use Rattle.terms.specs.declared.Limits.{Limits}
 use Rattle.terms.specs.declared.ReadValue.{ReadValue}
@@ -101,11 +99,3 @@ weight_inside end zero at p rank rank' e z r = absurd (z refl)
 weight_inside end (suc left) at p rank rank' e z r =
     let l = weight_less end left (suc left - 1) at p rank rank' (omega arith) r in
     omega arith
-
--- what a reader of a cycle is asked where that number is `n`, and where it is below `n`
-module _ (ps : List (ParamKind 2)) (μ : Measures 2 ps ℕ) (P : In 2 ps) (n : ℕ) where
-  abbrev pub asked_at : In 2 ps
-  asked_at = and 2 ps (is 2 ps μ n) P
-
-  abbrev pub asked_below : In 2 ps
-  asked_below = and 2 ps (falls 2 ps ◌<◌ μ n) P

@@ -6,16 +6,13 @@ use native.Mathlib.Omega.{arith}
 use lib.ListN.{length}
 use Rattle.whole.specs.declared.Worked.{Worked}
 use Rattle.terms.specs.declared.AtomStart.{AtomStart}
-use Rattle.terms.specs.declared.AtomStart.TheVariants as AtomStart
 use Rattle.terms.specs.declared.Limits.{Limits}
 use Rattle.terms.specs.declared.ReadValue.{ReadValue}
 use Rattle.terms.specs.declared.Start.{Start}
-use Rattle.terms.specs.declared.Start.TheVariants as Start
 use Rattle.terms.specs.Vocabulary.Answers.{as_value}
 use Rattle.terms.specs.Bytes.{Text, bytes, byte_at}
 use Rattle.terms.specs.Expressions.{Reading, largest, start_of, star, sign, comparison, factor_by, factor, product, sum, comparing, expression}
 use Rattle.terms.specs.Guards.{GuardReading, atom_start_of, ampersand, bar, atom_by, atom, conjunction, disjunction, guard}
-use Rattle.terms.specs.Leaves.{variable}
 use Rattle.terms.specs.Parsed.{Parsed, bad, word, opened}
 use Rattle.terms.proofs.Digits.{decimal_moves}
 use Rattle.terms.proofs.Moving.{Moves, moves_bad, moves_mapped, moves_closed, moves_series, word_on}

@@ -10,11 +10,9 @@ use lib.Dec.{ltb, eqb}
 use lib.ListN.{length}
 use Rattle.whole.specs.declared.Operator.{Operator}
 use Rattle.terms.specs.declared.AtomStart.{AtomStart}
-use Rattle.terms.specs.declared.AtomStart.TheVariants as AtomStart
 use Rattle.terms.specs.declared.Junction.{Junction}
 use Rattle.terms.specs.declared.Limits.{Limits}
 use Rattle.terms.specs.declared.Start.{Start}
-use Rattle.terms.specs.declared.Start.TheVariants as Start
 use Rattle.terms.specs.declared.Variable.{Variable}
 use Rattle.terms.specs.declared.Variable.TheVariants.{Attribute, Local}
 use Rattle.terms.specs.Bytes.{Text, byte_at, digit}

@@ -5,17 +5,15 @@ use mathlib.Core.Path.{◌≡◌, refl, sym, ap, ◌∙◌}
 use lib.ListN.{length}
 use Rattle.whole.specs.declared.Operator.{Operator}
 use Rattle.terms.specs.declared.Start.{Start}
-use Rattle.terms.specs.declared.Start.TheVariants as Start
 use Rattle.terms.specs.declared.Variable.{Variable}
 use Rattle.terms.specs.Bytes.{Text, byte_at}
 use Rattle.terms.specs.declared.Limits.{Limits}
 use Rattle.terms.specs.Parsed.{Parsed, bad, mapped, closed}
 use Rattle.terms.specs.Expressions.{Reading, start_of, star, sign, comparison, factor_by, factor, product, sum, comparing, expression}
 use Rattle.terms.specs.declared.AtomStart.{AtomStart}
-use Rattle.terms.specs.declared.AtomStart.TheVariants as AtomStart
 use Rattle.terms.specs.declared.Junction.{Junction}
 use Rattle.terms.specs.Guards.{GuardReading, atom_start_of, ampersand, bar, atom_by, atom, conjunction, disjunction, guard}
-use Rattle.terms.specs.Trees.{Guard, trees, guard_trees, fold, fold_guard}
+use Rattle.terms.specs.Trees.{trees, guard_trees, fold, fold_guard}
 use Rattle.terms.specs.Vocabulary.Nothing.{nothing, guard_nothing}
 use Rattle.terms.specs.Values.{Surroundings, values, guard_values, value_of, guard_of}
 use Rattle.terms.proofs.Following.{mapped_mapped, mapped_twice, mapped_bad, respects_closed, respects_series}

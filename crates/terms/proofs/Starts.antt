@@ -10,10 +10,8 @@ use lib.ListN.{length}
 use Rattle.whole.specs.declared.Operator.{Operator}
 use Rattle.whole.specs.declared.Operator.TheVariants.{Times}
 use Rattle.terms.specs.declared.AtomStart.{AtomStart}
-use Rattle.terms.specs.declared.AtomStart.TheVariants as AtomStart
 use Rattle.terms.specs.declared.Junction.TheVariants.{Both, Either}
 use Rattle.terms.specs.declared.Start.{Start}
-use Rattle.terms.specs.declared.Start.TheVariants as Start
 use Rattle.terms.specs.Bytes.{Text, byte_at, told, digit}
 use Rattle.terms.specs.Expressions.{among, star, sign, comparison, starts, start_of}
 use Rattle.terms.specs.Guards.{ampersand, bar, atom_starts, atom_start_of}

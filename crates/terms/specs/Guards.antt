@@ -3,7 +3,6 @@ use Rattle.std.specs.Prelude.{ℕ, zero, suc, ◌+◌, true, false, List, [], �
 use Prim.Native.Char.{code}
 use Rattle.std.proofs.Math.Option.{Option, none, some}
 use Rattle.terms.specs.declared.AtomStart.{AtomStart}
-use Rattle.terms.specs.declared.AtomStart.TheVariants as AtomStart
 use Rattle.terms.specs.declared.Junction.{Junction}
 use Rattle.terms.specs.declared.Junction.TheVariants.{Both, Either}
 use Rattle.terms.specs.declared.Variable.{Variable}

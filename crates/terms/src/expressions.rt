@@ -21,7 +21,7 @@ const LARGEST: u32 = 2147483647;
 pub const BRACKETS: usize = 8;
 
 // One of two bytes, each with its operator.
-#[tactic(auto, using(crate::proofs::Starts::among_first, crate::proofs::Starts::among_none, crate::proofs::Starts::among_second), unfolding(crate::specs::Expressions::among, crate::specs::Vocabulary::Answers::as_operator))]
+#[tactic(auto, unfolding(crate::specs::Expressions::among, crate::specs::Vocabulary::Answers::as_operator))]
 fn among(first: u8, o: Operator, second: u8, p: Operator, b: u8) -> OperatorFound
     ensures { result ≡ as_operator (Expressions.among first o second p b) }
 {
@@ -85,7 +85,7 @@ fn grouped(by: OperatorFound, a: Worked, b: Worked) -> Worked
 }
 
 // What a factor begins with.
-#[tactic(auto, using(crate::proofs::Bytes::above_digits, crate::proofs::Bytes::below_digits, crate::proofs::Starts::starts_decimal, crate::proofs::Starts::starts_nothing), unfolding(crate::specs::Bytes::digit, crate::specs::Bytes::told, crate::specs::Expressions::start_of))]
+#[tactic(auto, unfolding(crate::specs::Bytes::digit, crate::specs::Bytes::told, crate::specs::Expressions::start_of))]
 fn start_at(s: &[u8], at: usize) -> Start
     ensures { result ≡ Expressions.start_of (byte_at s.now at) }
 {
@@ -100,7 +100,7 @@ fn start_at(s: &[u8], at: usize) -> Start
 }
 
 // A decimal as a factor.
-#[tactic(auto, using(crate::proofs::Answers::answer_bad, crate::proofs::Answers::answer_got, crate::proofs::Answers::number_bad, crate::proofs::Answers::number_got, crate::proofs::Digits::decimal_below), unfolding(crate::specs::Leaves::decimal, crate::specs::Parsed::mapped, crate::specs::Vocabulary::Answers::as_value))]
+#[tactic(auto, using(crate::proofs::Answers::answer_bad, crate::proofs::Answers::answer_got, crate::proofs::Answers::number_bad, crate::proofs::Answers::number_got, crate::proofs::Digits::decimal_below))]
 fn number(s: &[u8], at: usize) -> ReadValue
     ensures { result ≡ as_value (mapped (λ n. Value (pos n)) (Leaves.decimal Expressions.largest s.now at)) }
 {
@@ -111,7 +111,7 @@ fn number(s: &[u8], at: usize) -> ReadValue
 }
 
 // A variable as a factor.
-#[tactic(auto, using(crate::proofs::Answers::answer_bad, crate::proofs::Answers::answer_got, crate::proofs::Answers::variable_bad, crate::proofs::Answers::variable_got, whole::proofs::Ranges::handed), unfolding(crate::specs::Leaves::variable, crate::specs::Parsed::mapped, crate::specs::Values::held, crate::specs::Vocabulary::Answers::as_value, crate::specs::Vocabulary::Answers::surroundings))]
+#[tactic(auto, using(crate::proofs::Answers::answer_bad, crate::proofs::Answers::answer_got, crate::proofs::Answers::variable_bad, crate::proofs::Answers::variable_got, whole::proofs::Ranges::handed))]
 fn variable(s: &[u8], at: usize, cells: &[i32], around: Around) -> ReadValue
     ensures { result ≡ as_value (mapped (λ x. Value (Values.held (surroundings cells.now around.here) x)) (Leaves.variable around.limits s.now at)) }
 {
@@ -125,7 +125,7 @@ fn variable(s: &[u8], at: usize, cells: &[i32], around: Around) -> ReadValue
 }
 
 // A word as a factor, with its value.
-#[tactic(auto, using(crate::proofs::Answers::answer_bad, crate::proofs::Answers::answer_got, crate::proofs::Answers::word_bad, crate::proofs::Answers::word_got), unfolding(crate::specs::Parsed::mapped, crate::specs::Parsed::word, crate::specs::Vocabulary::Answers::as_value))]
+#[tactic(auto, using(crate::proofs::Answers::answer_bad, crate::proofs::Answers::answer_got, crate::proofs::Answers::word_bad, crate::proofs::Answers::word_got))]
 pub fn named(w: &[u8], value: Worked, s: &[u8], at: usize) -> ReadValue
     requires { at < length s.now }
     ensures { result ≡ as_value (mapped (λ _. value) (word w.now s.now at)) }

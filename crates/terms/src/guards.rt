@@ -14,7 +14,7 @@ use crate::{Around, AtomStart, Junction, ReadValue, ReadVariable, expressions, l
 use whole::Worked;
 
 // What an atom begins with.
-#[tactic(auto, using(crate::proofs::Starts::begins_nothing), unfolding(crate::specs::Bytes::told, crate::specs::Guards::atom_start_of))]
+#[tactic(auto, unfolding(crate::specs::Bytes::told, crate::specs::Guards::atom_start_of))]
 fn atom_start_at(s: &[u8], at: usize) -> AtomStart
     ensures { result ≡ Guards.atom_start_of (byte_at s.now at) }
 {
@@ -28,7 +28,7 @@ fn atom_start_at(s: &[u8], at: usize) -> AtomStart
 }
 
 // "a variable followed by `?`"
-#[tactic(auto, using(crate::proofs::Answers::answer_bad, crate::proofs::Answers::answer_got, crate::proofs::Answers::variable_bad, crate::proofs::Answers::variable_got, crate::proofs::Moving::within_text, crate::proofs::Nesting::closed_fail, crate::proofs::Nesting::closed_go, crate::proofs::Nesting::closed_none, whole::proofs::Ranges::handed), unfolding(crate::specs::Leaves::variable, crate::specs::Parsed::closed, crate::specs::Parsed::mapped, crate::specs::Values::is_replied, crate::specs::Vocabulary::Answers::as_value, crate::specs::Vocabulary::Answers::surroundings))]
+#[tactic(auto, using(crate::proofs::Answers::answer_bad, crate::proofs::Answers::answer_got, crate::proofs::Answers::variable_bad, crate::proofs::Answers::variable_got, crate::proofs::Moving::within_text, crate::proofs::Nesting::closed_fail, crate::proofs::Nesting::closed_go, crate::proofs::Nesting::closed_none, whole::proofs::Ranges::handed))]
 fn reply(s: &[u8], at: usize, cells: &[i32], around: Around) -> ReadValue
     ensures { result ≡ as_value (mapped (λ x. Value (truth (Values.is_replied (surroundings cells.now around.here) x))) (closed 63 s.now (Leaves.variable around.limits s.now at))) }
 {
@@ -48,7 +48,7 @@ fn reply(s: &[u8], at: usize, cells: &[i32], around: Around) -> ReadValue
 }
 
 // "an expression in square brackets", as a test.
-#[tactic(auto, using(crate::proofs::Answers::answer_bad, crate::proofs::Answers::answer_got, crate::proofs::Answers::value_bad, crate::proofs::Answers::value_got), unfolding(crate::specs::Parsed::mapped, crate::specs::Values::tested, crate::specs::Vocabulary::Answers::as_value))]
+#[tactic(auto, unfolding(crate::specs::Parsed::mapped, crate::specs::Vocabulary::Answers::as_value))]
 fn test(s: &[u8], at: usize, cells: &[i32], around: Around, left: usize) -> ReadValue
     requires { at < length s.now }
     ensures { result ≡ as_value (mapped Values.tested (Readers.inside_read cells.now around s.now 93 left at)) }

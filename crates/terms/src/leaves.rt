@@ -11,7 +11,6 @@ use crate::{Limits, ReadNumber, ReadVariable, ReadWord, Variable};
 use whole::Natural;
 
 // What stands at a place; past the end 0, which begins and continues nothing.
-#[tactic(auto, using(crate::proofs::Moving::past_end))]
 pub fn byte_at(s: &[u8], at: usize) -> u8
     ensures { result ≡ Bytes.byte_at s.now at }
 {
@@ -19,7 +18,7 @@ pub fn byte_at(s: &[u8], at: usize) -> u8
 }
 
 // A byte as a digit.
-#[tactic(auto, using(crate::proofs::Bytes::above_digits, crate::proofs::Bytes::among_digits, crate::proofs::Bytes::below_digits), unfolding(crate::specs::Bytes::digit, whole::specs::Vocabulary::Naturals::as_natural))]
+#[tactic(auto, unfolding(crate::specs::Bytes::digit, whole::specs::Vocabulary::Naturals::as_natural))]
 fn digit(b: u8) -> Natural
     ensures { result ≡ Naturals.as_natural (Bytes.digit b) }
 {
@@ -33,7 +32,6 @@ fn digit(b: u8) -> Natural
 }
 
 // What stands at a place, as a digit.
-#[tactic(auto, unfolding(crate::specs::Bytes::digit, whole::specs::Vocabulary::Naturals::as_natural))]
 fn digit_at(s: &[u8], at: usize) -> Natural
     ensures { result ≡ Naturals.as_natural (Bytes.digit (Bytes.byte_at s.now at)) }
 {
@@ -41,7 +39,7 @@ fn digit_at(s: &[u8], at: usize) -> Natural
 }
 
 // The very bytes of a word, from a place of the text or its end.
-#[tactic(auto, using(crate::proofs::Moving::rest_no, crate::proofs::Moving::rest_none, crate::proofs::Moving::rest_yes), unfolding(crate::specs::Parsed::word, crate::specs::Vocabulary::Answers::as_word))]
+#[tactic(auto, unfolding(crate::specs::Parsed::word, crate::specs::Vocabulary::Answers::as_word))]
 pub fn word(w: &[u8], s: &[u8], at: usize) -> ReadWord
     requires { at ≤ length s.now }
     ensures { result ≡ Answers.as_word (Parsed.word w.now s.now at) }
@@ -57,7 +55,7 @@ pub fn word(w: &[u8], s: &[u8], at: usize) -> ReadWord
 }
 
 // The digits after a first, while the number is at most `most`.
-#[tactic(auto, using(crate::proofs::Bytes::digit_is, crate::proofs::Digits::digit_within, crate::proofs::Digits::digits_more, crate::proofs::Digits::digits_none, crate::proofs::Digits::digits_past, whole::proofs::Ranges::natural_none, whole::proofs::Ranges::natural_some), unfolding(crate::specs::Leaves::counting, crate::specs::Parsed::repeated, crate::specs::Vocabulary::Answers::as_number))]
+#[tactic(auto, using(crate::proofs::Bytes::digit_is, crate::proofs::Digits::digit_within, crate::proofs::Digits::digits_more, crate::proofs::Digits::digits_none, crate::proofs::Digits::digits_past, whole::proofs::Ranges::natural_none, whole::proofs::Ranges::natural_some), unfolding(crate::specs::Vocabulary::Answers::as_number))]
 fn digits(most: u32, s: &[u8], at: usize, n: u32) -> ReadNumber
     requires { n ≤ most }
     ensures { result ≡ Answers.as_number (Parsed.repeated (Leaves.counting most s.now) (length s.now) at n) }
@@ -120,7 +118,7 @@ fn numbered(limit: usize, s: &[u8], at: usize) -> ReadNumber
 }
 
 // "X and Y are variables: a0..a7 below attrs, v0..v7 below locals."
-#[tactic(auto, using(crate::proofs::Answers::number_bad, crate::proofs::Answers::number_got, crate::proofs::Moving::within_text, crate::proofs::Variables::numbered_digit, crate::proofs::Variables::variable_a, crate::proofs::Variables::variable_none, crate::proofs::Variables::variable_v), unfolding(crate::specs::Leaves::variable, crate::specs::Parsed::mapped, crate::specs::Vocabulary::Answers::as_variable))]
+#[tactic(auto, using(crate::proofs::Answers::number_bad, crate::proofs::Answers::number_got, crate::proofs::Moving::within_text, crate::proofs::Variables::numbered_digit, crate::proofs::Variables::variable_a, crate::proofs::Variables::variable_none, crate::proofs::Variables::variable_v), unfolding(crate::specs::Parsed::mapped, crate::specs::Vocabulary::Answers::as_variable))]
 pub fn variable(limits: Limits, s: &[u8], at: usize) -> ReadVariable
     ensures { result ≡ Answers.as_variable (Leaves.variable limits s.now at) }
 {

@@ -1,5 +1,6 @@
 // Decimals, variables, expressions and guards, read straight from the text. Each reader works its value out while it reads.
 #![tactic(auto)]
+
 use layout::{Label, ObjectNumber};
 use whole::{Operator, Worked};
 

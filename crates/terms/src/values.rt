@@ -11,7 +11,7 @@ use layout::LabelFound;
 use whole::Worked;
 
 // A variable's cell: an attribute of the object, or a local of the call.
-#[tactic(auto, using(whole::proofs::Ranges::handed), unfolding(crate::specs::Values::held, crate::specs::Vocabulary::Answers::surroundings))]
+#[tactic(auto, unfolding(crate::specs::Values::held, crate::specs::Vocabulary::Answers::surroundings))]
 pub fn held(cells: &[i32], here: Here, x: Variable) -> i32
     ensures { result ≡ Values.held (surroundings cells.now here) x }
 {
@@ -39,7 +39,7 @@ pub fn caller(cells: &[i32], here: Here) -> Worked
 }
 
 // "`wait` is true exactly when cleared is 1"
-#[tactic(auto, using(whole::proofs::Ranges::handed), unfolding(crate::specs::Values::is_cleared, crate::specs::Vocabulary::Answers::surroundings))]
+#[tactic(auto, unfolding(crate::specs::Values::is_cleared, crate::specs::Vocabulary::Answers::surroundings))]
 pub fn is_cleared(cells: &[i32], here: Here) -> bool
     ensures { result ≡ Values.is_cleared (surroundings cells.now here) }
 {
@@ -47,7 +47,6 @@ pub fn is_cleared(cells: &[i32], here: Here) -> bool
 }
 
 // `wait` as an atom of a guard.
-#[tactic(auto, using(whole::proofs::Ranges::handed), unfolding(crate::specs::Values::is_cleared, crate::specs::Vocabulary::Answers::surroundings))]
 pub fn waited(cells: &[i32], here: Here) -> Worked
     ensures { result ≡ Value (truth (Values.is_cleared (surroundings cells.now here))) }
 {
@@ -66,7 +65,7 @@ pub fn is_replied(cells: &[i32], here: Here, x: Variable) -> bool
 }
 
 // An expression as an atom of a guard: 1 where it is true.
-#[tactic(auto, using(whole::proofs::Ranges::handed), unfolding(crate::specs::Values::tested))]
+#[tactic(auto, unfolding(crate::specs::Values::tested))]
 pub fn tested(w: Worked) -> Worked
     ensures { result ≡ Values.tested w }
 {
@@ -88,7 +87,7 @@ fn junction(j: Junction, left: bool, right: bool) -> bool
 }
 
 // Two guards joined. "All atoms are worked out."
-#[tactic(auto, using(whole::proofs::Ranges::handed), unfolding(crate::specs::Values::joined))]
+#[tactic(auto, unfolding(crate::specs::Values::joined))]
 pub fn joined(j: Junction, left: Worked, right: Worked) -> Worked
     ensures { result ≡ Values.joined j left right }
 {
