@@ -18,9 +18,7 @@ use Rattle.terms.proofs.Moving.{within_text, no_got, word_yes, word_no, word_on}
 use Rattle.terms.proofs.Parts.{Free, shifted, unshifted, part_length, word_part}
 use Rattle.text.specs.declared.At.{At}
 use Rattle.text.specs.declared.Keyed.{Keyed}
-use Rattle.text.specs.declared.Keyed.TheVariants as Keyed
 use Rattle.text.specs.declared.LineFound.{LineFound}
-use Rattle.text.specs.declared.LineFound.TheVariants as LineFound
 use Rattle.text.specs.declared.Verdict.{Verdict}
 use Rattle.text.specs.InOrder.{LinesRead, failed, after, Taken, wrong, right, passed, key_line}
 use Rattle.text.specs.Lines.{Line, lines, line_feed, longest_line, plain_bytes, sound, content}

@@ -6,7 +6,6 @@ use lib.ListN.{drop}
 use Rattle.terms.specs.Bytes.{Text}
 use Rattle.text.specs.declared.At.{At}
 use Rattle.text.specs.declared.Read.{Read}
-use Rattle.text.specs.declared.Read.TheVariants as Read
 use Rattle.text.specs.declared.Verdict.{Verdict}
 use Rattle.text.specs.InOrder.{LinesRead, failed, after, Reader, done, ◌>>=◌}
 use Rattle.text.specs.Lines.{Line, lines}

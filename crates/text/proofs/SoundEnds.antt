@@ -12,7 +12,6 @@ use lib.ListN.{length, take, drop, length-drop}
 use lib.Seq.{drop-cons, drop-drop, get_or-drop}
 use Rattle.terms.specs.Bytes.{Text, byte_at}
 use Rattle.text.specs.declared.LineFound.{LineFound}
-use Rattle.text.specs.declared.LineFound.TheVariants as LineFound
 use Rattle.text.specs.Lines.{Line, terminated, unterminated, grown, lines, line_feed, longest_line, plain_byte, plain_bytes, sound, content}
 use Rattle.text.specs.Vocabulary.LineEnds.{first_end, sound_end}
 use Rattle.text.proofs.Cutting.{lines_first, lines_later, grown_none, grown_whole, grown_unended, lines_some, cut_whole, line_none}

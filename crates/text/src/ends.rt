@@ -37,8 +37,8 @@ fn is_plain_group(text: &[u8], at: usize) -> bool
 #[tactic(auto, using(crate::proofs::Plain::plain_begun, crate::proofs::Plain::plain_past), unfolding(crate::specs::Lines::plain_bytes))]
 fn past_groups(text: &[u8], at: usize, stop: usize) -> usize
     requires { (at ≤ stop) × (stop ≤ length text.now) }
-    ensures lower_bound { (at ≤ result) × (result ≤ stop) }
-    ensures text_value { Lines.plain_bytes (take (result - at) (drop at text.now)) ≡ true }
+    ensures within { (at ≤ result) × (result ≤ stop) }
+    ensures plain { Lines.plain_bytes (take (result - at) (drop at text.now)) ≡ true }
 {
     let mut i = at;
     while stop - i >= GROUP {

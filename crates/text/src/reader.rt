@@ -1,6 +1,6 @@
 // A text and the place where reading stands, together: the number of every line of a model text is read, and the end of every code line found, through
-// it. The borrow checker covers no function over a struct that holds a slice. So each here is thin and proved by hand, the work is left to the
-// covered `sound_line` and `fed_number`, and `line_at` and `number_at`, whose parameters are plain, serve every caller.
+// it. Each function here is thin: the work is left to `sound_line` and `fed_number`, and `line_at` and `number_at`, whose parameters are plain, serve
+// every caller.
 ghost use Rattle.std.specs.Prelude.{◌≡◌, ◌≤◌, length};
 ghost use Rattle.terms.specs.Vocabulary.Answers as Answers;
 ghost use Rattle.text.specs.Vocabulary.LineEnds as LineEnds;
@@ -17,7 +17,6 @@ pub struct Reader<'a> {
 }
 
 // A reader that stands at a place of a text.
-#[tactic(auto, using(crate::proofs::ReaderWalks::Walk, crate::proofs::ReaderWalks::and_local, crate::proofs::ReaderWalks::dies, crate::proofs::ReaderWalks::exits, crate::proofs::ReaderWalks::met, crate::proofs::ReaderWalks::placed, crate::proofs::ReaderWalks::shuts))]
 fn reader_at<'a>(text: &'a [u8], at: usize) -> Reader<'a>
     ensures { (result.text ≡ text.entry) × (result.at ≡ at) }
 {
@@ -25,7 +24,6 @@ fn reader_at<'a>(text: &'a [u8], at: usize) -> Reader<'a>
 }
 
 // The end of the line that begins where the reader stands.
-#[tactic(auto, using(crate::proofs::ReaderWalks::Walk, crate::proofs::ReaderWalks::and_local, crate::proofs::ReaderWalks::calls_known, crate::proofs::ReaderWalks::dies, crate::proofs::ReaderWalks::exits, crate::proofs::ReaderWalks::met, crate::proofs::ReaderWalks::opens, crate::proofs::ReaderWalks::placed, crate::proofs::ReaderWalks::reader, crate::proofs::ReaderWalks::values), unfolding(crate::specs::Vocabulary::LineEnds::sound_end))]
 fn line<'a>(reader: Reader<'a>) -> LineFound
     requires { reader.at ≤ length reader.text.now }
     ensures { result ≡ LineEnds.sound_end reader.entry.text.now reader.entry.at }
@@ -34,7 +32,6 @@ fn line<'a>(reader: Reader<'a>) -> LineFound
 }
 
 // The end of the line that begins at a place of a text.
-#[tactic(auto, using(crate::proofs::ReaderWalks::Walk, crate::proofs::ReaderWalks::and_local, crate::proofs::ReaderWalks::calls_known, crate::proofs::ReaderWalks::dies, crate::proofs::ReaderWalks::exits, crate::proofs::ReaderWalks::hands, crate::proofs::ReaderWalks::held, crate::proofs::ReaderWalks::makes, crate::proofs::ReaderWalks::met, crate::proofs::ReaderWalks::of_made, crate::proofs::ReaderWalks::placed, crate::proofs::ReaderWalks::reader, crate::proofs::ReaderWalks::values), unfolding(crate::specs::Vocabulary::LineEnds::sound_end))]
 pub fn line_at(text: &[u8], at: usize) -> LineFound
     requires { at ≤ length text.now }
     ensures { result ≡ LineEnds.sound_end text.now at }
@@ -43,7 +40,6 @@ pub fn line_at(text: &[u8], at: usize) -> LineFound
 }
 
 // The number that stands where the reader does, from its lowest to its highest, if an LF is behind it.
-#[tactic(auto, using(crate::proofs::ReaderWalks::Walk, crate::proofs::ReaderWalks::and_local, crate::proofs::ReaderWalks::bounds, crate::proofs::ReaderWalks::calls_known, crate::proofs::ReaderWalks::dies, crate::proofs::ReaderWalks::exits, crate::proofs::ReaderWalks::met, crate::proofs::ReaderWalks::opens, crate::proofs::ReaderWalks::placed, crate::proofs::ReaderWalks::reader, crate::proofs::ReaderWalks::values), unfolding(crate::specs::Vocabulary::KeyLines::fed_number, terms::specs::Vocabulary::Answers::as_number))]
 fn number<'a>(reader: Reader<'a>, lowest: u32, highest: u32) -> ReadNumber
     ensures { result ≡ Answers.as_number (KeyLines.fed_number lowest highest reader.entry.text.now reader.entry.at) }
 {
@@ -51,7 +47,6 @@ fn number<'a>(reader: Reader<'a>, lowest: u32, highest: u32) -> ReadNumber
 }
 
 // The same of the number at a place of a text.
-#[tactic(auto, using(crate::proofs::ReaderWalks::Walk, crate::proofs::ReaderWalks::and_local, crate::proofs::ReaderWalks::bounds, crate::proofs::ReaderWalks::calls_known, crate::proofs::ReaderWalks::dies, crate::proofs::ReaderWalks::exits, crate::proofs::ReaderWalks::hands, crate::proofs::ReaderWalks::held, crate::proofs::ReaderWalks::makes, crate::proofs::ReaderWalks::met, crate::proofs::ReaderWalks::of_made, crate::proofs::ReaderWalks::placed, crate::proofs::ReaderWalks::reader, crate::proofs::ReaderWalks::values), unfolding(crate::specs::Vocabulary::KeyLines::fed_number, terms::specs::Vocabulary::Answers::as_number))]
 pub fn number_at(text: &[u8], at: usize, lowest: u32, highest: u32) -> ReadNumber
     ensures { result ≡ Answers.as_number (KeyLines.fed_number lowest highest text.now at) }
 {

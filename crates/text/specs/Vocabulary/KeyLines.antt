@@ -5,7 +5,6 @@ use Rattle.terms.specs.Bytes.{Text, byte_at}
 use Rattle.terms.specs.Leaves.{decimal}
 use Rattle.terms.specs.Parsed.{Parsed, got, bad, next, word}
 use Rattle.text.specs.declared.Keyed.{Keyed}
-use Rattle.text.specs.declared.Keyed.TheVariants as Keyed
 use Rattle.text.specs.declared.LineFound.TheVariants as LineFound
 use Rattle.text.specs.Lines.{line_feed}
 use Rattle.text.specs.Vocabulary.LineEnds.{sound_end}

@@ -2,7 +2,6 @@
 use Rattle.std.specs.Prelude.{ℕ, ◌+◌, true, false, List, [], ◌∷◌, length, drop}
 use Rattle.terms.specs.Bytes.{Text}
 use Rattle.text.specs.declared.LineFound.{LineFound}
-use Rattle.text.specs.declared.LineFound.TheVariants as LineFound
 use Rattle.text.specs.Lines.{Line, lines, sound, content}
 
 -- the end of the first of some lines, which begins at a place: where its LF stands, if the line is sound

@@ -4,7 +4,6 @@ use Rattle.whole.specs.Refusals.{broken_line, wrong_key}
 use Rattle.terms.specs.Bytes.{Text}
 use Rattle.text.specs.declared.At.{At}
 use Rattle.text.specs.declared.Read.{Read}
-use Rattle.text.specs.declared.Read.TheVariants as Read
 use Rattle.text.specs.declared.Verdict.{Verdict}
 use Rattle.text.specs.InOrder.{LinesRead, failed, after, Reader}
 use Rattle.text.specs.Lines.{Line, lines, sound, longest_text}
