@@ -31,7 +31,7 @@ fn no_choice() -> Choice
 }
 
 // A byte as a digit: one byte that is a decimal.
-#[tactic(auto, using(crate::proofs::DigitsAlone::digit_bad, crate::proofs::DigitsAlone::digit_got, crate::proofs::DigitsAlone::one_byte, terms::proofs::Answers::number_bad, terms::proofs::Answers::number_got), unfolding(terms::specs::Bytes::digit, whole::specs::Vocabulary::Naturals::as_natural))]
+#[tactic(auto, using(crate::proofs::DigitsAlone::digit_bad, crate::proofs::DigitsAlone::digit_got, crate::proofs::DigitsAlone::one_byte, terms::proofs::Answers::number_bad, terms::proofs::Answers::number_got), unfolding(whole::specs::Vocabulary::Naturals::as_natural))]
 fn digit(s: &[u8], at: usize) -> Natural
     requires { at < length s.now }
     ensures { result ≡ Naturals.as_natural (Bytes.digit (Bytes.byte_at s.now at)) }
@@ -44,7 +44,7 @@ fn digit(s: &[u8], at: usize) -> Natural
 }
 
 // One to nine digits and nothing else, as the number that they write; leading zeros may stand.
-#[tactic(auto, using(crate::proofs::DigitsAlone::alone_empty, crate::proofs::DigitsAlone::alone_long, crate::proofs::DigitsAlone::alone_within, crate::proofs::DigitsAlone::digits_ended, crate::proofs::DigitsAlone::digits_more, crate::proofs::DigitsAlone::digits_other, crate::proofs::DigitsAlone::nine, crate::proofs::DigitsAlone::tens, terms::proofs::Bytes::digit_is, whole::proofs::Ranges::natural_none, whole::proofs::Ranges::natural_some), unfolding(session::specs::Choices::digits_alone, whole::specs::Vocabulary::Naturals::as_natural))]
+#[tactic(auto, using(crate::proofs::DigitsAlone::alone_empty, crate::proofs::DigitsAlone::alone_long, crate::proofs::DigitsAlone::alone_within, crate::proofs::DigitsAlone::digits_ended, crate::proofs::DigitsAlone::digits_other, whole::proofs::Ranges::natural_none), unfolding(whole::specs::Vocabulary::Naturals::as_natural))]
 fn digits_alone(s: &[u8]) -> Natural
     ensures { result ≡ Naturals.as_natural (Choices.digits_alone s.now) }
 {
@@ -69,7 +69,7 @@ fn digits_alone(s: &[u8]) -> Natural
 }
 
 // The choice of a kind, by what follows its name.
-#[tactic(auto, using(crate::proofs::DigitsAlone::alone_below, crate::proofs::KindsFound::number_at, whole::proofs::Ranges::natural_none, whole::proofs::Ranges::natural_some), unfolding(crate::specs::Vocabulary::KindNames::chosen, crate::specs::Vocabulary::KindNames::kind_at, rules::specs::Kinds::choose, session::specs::Choices::digits_alone))]
+#[tactic(auto, using(crate::proofs::DigitsAlone::alone_below, crate::proofs::KindsFound::number_at, whole::proofs::Ranges::natural_none, whole::proofs::Ranges::natural_some), unfolding(crate::specs::Vocabulary::KindNames::chosen, rules::specs::Kinds::choose))]
 fn chosen(kind: u8, digits: &[u8]) -> Choice
     requires { (1 ≤ kind) × (kind ≤ 5) }
     ensures { result ≡ KindNames.chosen (KindNames.kind_at kind) (Choices.digits_alone digits.now) }
@@ -84,7 +84,7 @@ fn chosen(kind: u8, digits: &[u8]) -> Choice
 }
 
 // A kind's name with its `=`, read at the front of a line.
-#[tactic(auto, using(crate::proofs::KindsFound::fifth), unfolding(crate::specs::Vocabulary::KindNames::kind_at, session::specs::Choices::kind_name, terms::specs::Parsed::word, terms::specs::Vocabulary::Answers::as_word))]
+#[tactic(auto, using(crate::proofs::KindsFound::fifth), unfolding(crate::specs::Vocabulary::KindNames::kind_at, session::specs::Choices::kind_name))]
 fn kind_name(kind: u8, line: &[u8]) -> ReadWord
     requires { (1 ≤ kind) × (kind ≤ 5) }
     ensures { result ≡ Answers.as_word (Parsed.word (Choices.kind_name (KindNames.kind_at kind)) line.now 0) }
@@ -99,7 +99,7 @@ fn kind_name(kind: u8, line: &[u8]) -> ReadWord
 }
 
 // The choice of a line: the first kind whose name it begins with.
-#[tactic(auto, using(crate::proofs::KindsFound::found, crate::proofs::KindsFound::name_within, crate::proofs::KindsFound::none_left, crate::proofs::KindsFound::not_found, crate::proofs::Storing::take_rest, terms::proofs::Answers::word_bad, terms::proofs::Answers::word_got), unfolding(session::specs::Choices::choice_of))]
+#[tactic(auto, using(crate::proofs::KindsFound::found, crate::proofs::KindsFound::name_within, crate::proofs::KindsFound::none_left, crate::proofs::KindsFound::not_found, crate::proofs::Storing::take_rest, terms::proofs::Answers::word_bad, terms::proofs::Answers::word_got))]
 pub fn choice_of(line: &[u8]) -> Choice
     ensures { result ≡ Choices.choice_of Kinds.kinds line.now }
 {
@@ -114,7 +114,7 @@ pub fn choice_of(line: &[u8]) -> Choice
 }
 
 // Where the line that begins at a place ends: at its LF, or with the input.
-#[tactic(auto, using(crate::proofs::Cutting::length_ended, crate::proofs::Cutting::length_here, crate::proofs::Cutting::length_onward), unfolding(crate::specs::Vocabulary::InputLines::line_length))]
+#[tactic(auto, using(crate::proofs::Cutting::length_ended, crate::proofs::Cutting::length_here, crate::proofs::Cutting::length_onward))]
 pub fn line_end(input: &[u8], at: usize) -> usize
     requires { at ≤ length input.now }
     ensures { result ≡ at + InputLines.line_length (drop at input.now) }

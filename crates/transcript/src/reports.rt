@@ -35,7 +35,7 @@ fn answer_line(answer: i32, out: &mut [u8], at: usize) -> usize
 }
 
 // The lines of all answers.
-#[tactic(auto, using(crate::proofs::Reporting::lines_ended, crate::proofs::Reporting::lines_more, crate::proofs::Storing::wrote_as, crate::proofs::Storing::wrote_onward), unfolding(session::specs::Runner::answer_lines))]
+#[tactic(auto, using(crate::proofs::Reporting::lines_ended))]
 fn answer_lines(answers: &[i32], out: &mut [u8]) -> usize
     requires { length answers.now * 20 ≤ length out.old }
     ensures wrote { Front.Wrote (Runner.answer_lines answers.now) out.old out.new 0 result }
@@ -51,7 +51,7 @@ fn answer_lines(answers: &[i32], out: &mut [u8]) -> usize
 }
 
 // How many choices were accepted.
-#[tactic(auto, using(crate::proofs::Reporting::accepted_ended, crate::proofs::Reporting::accepted_here, crate::proofs::Reporting::refused_here), unfolding(session::specs::Runner::accepted_in))]
+#[tactic(auto, using(crate::proofs::Reporting::accepted_ended, crate::proofs::Reporting::accepted_here, crate::proofs::Reporting::refused_here))]
 fn accepted_in(answers: &[i32]) -> u32
     requires { length answers.now ≤ 4096 }
     ensures value { result ≡ Runner.accepted_in answers.now }
@@ -69,7 +69,7 @@ fn accepted_in(answers: &[i32]) -> u32
 }
 
 // How many were refused: all others.
-#[tactic(auto, using(crate::proofs::Reporting::all_counted), unfolding(session::specs::Runner::refused_in))]
+#[tactic(auto, using(crate::proofs::Reporting::all_counted))]
 fn refused_in(answers: &[i32]) -> u32
     requires { length answers.now ≤ 4096 }
     ensures { result ≡ Runner.refused_in answers.now }
@@ -79,7 +79,6 @@ fn refused_in(answers: &[i32]) -> u32
 
 // The answers to all choices of a run, how many were accepted and refused, and the objects and calls of the cells that it left: the bytes
 // at the front of the memory lent, and how many they are.
-#[tactic(auto, using(crate::proofs::Storing::wrote_after, crate::proofs::Storing::wrote_as, crate::proofs::Storing::wrote_front, whole::proofs::Ranges::handed), unfolding(crate::specs::Vocabulary::Front::at_front, session::specs::Runner::report))]
 pub fn report(answers: &[i32], cells: &[i32], out: &mut [u8]) -> usize
     requires answers_len_bound { length answers.now ≤ 4096 }
     requires in_bounds { 82000 ≤ length out.old }
@@ -95,7 +94,6 @@ pub fn report(answers: &[i32], cells: &[i32], out: &mut [u8]) -> usize
 }
 
 // "A refused model gives only `refused=` and `line=`."
-#[tactic(auto, using(crate::proofs::Storing::wrote_after, crate::proofs::Storing::wrote_front), unfolding(crate::specs::Vocabulary::Front::at_front, crate::specs::Vocabulary::Reported::refusal_lines))]
 pub fn refusal(verdict: Verdict, out: &mut [u8]) -> usize
     requires { 40 ≤ length out.old }
     ensures value { result ≡ length (Reported.refusal_lines verdict) }

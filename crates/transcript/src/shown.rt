@@ -7,7 +7,6 @@ ghost use Rattle.transcript.specs.Vocabulary.Front as Front;
 const MOST_DIGITS: usize = 10;
 
 // Bytes put from a place on, and the place behind them.
-#[tactic(auto, using(crate::proofs::Storing::sets_ended, crate::proofs::Storing::sets_onward))]
 fn put(bytes: &[u8], out: &mut [u8], at: usize) -> usize
     requires { at + length bytes.now ≤ length out.old }
     ensures { Front.Wrote bytes.now out.old out.new at result }
@@ -29,7 +28,7 @@ fn digit(d: u32) -> u8
 }
 
 // A number as a decimal: the digits are found from the last to the first.
-#[tactic(auto, using(crate::proofs::NumbersShown::a_place, crate::proofs::NumbersShown::a_tenth, crate::proofs::NumbersShown::shown_begun, crate::proofs::NumbersShown::shown_first, crate::proofs::NumbersShown::shown_more, crate::proofs::Storing::drop_stored, crate::proofs::Storing::take_rest, crate::proofs::Storing::wrote_as), unfolding(session::specs::Shown::shown))]
+#[tactic(auto, using(crate::proofs::NumbersShown::a_place, crate::proofs::NumbersShown::a_tenth, crate::proofs::NumbersShown::shown_begun, crate::proofs::NumbersShown::shown_first, crate::proofs::NumbersShown::shown_more, crate::proofs::Storing::drop_stored, crate::proofs::Storing::take_rest, crate::proofs::Storing::wrote_as))]
 fn number(n: u32, out: &mut [u8], at: usize) -> usize
     requires { at + 10 ≤ length out.old }
     ensures wrote { Front.Wrote (Shown.shown n) out.old out.new at result }
