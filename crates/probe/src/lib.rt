@@ -1,5 +1,6 @@
 // The readers of terms for programs in C and Rust, so that they can be tried from outside.
 #![tactic(auto)]
+
 ghost use Rattle.std.specs.Prelude.{◌≡◌, ◌≤◌};
 ghost use Rattle.terms.specs.Vocabulary.Readers.{expression_read, guard_read};
 ghost use Rattle.terms.specs.Expressions.{brackets};
@@ -25,7 +26,6 @@ fn place(p: usize) -> u64
 }
 
 // The 32 bits of a value.
-#[tactic(auto, using(whole::proofs::Ranges::read_back, whole::proofs::Ranges::wide_fits))]
 fn bits(z: i32) -> u64
     ensures value { result ≡ Packed.bits z }
     ensures upper_bound { result ≤ 4294967295 }
@@ -67,7 +67,6 @@ fn around(attrs: u8, locals: u8, object: u8, label: u32) -> Around
 }
 
 #[unsafe(no_mangle)]
-#[tactic(auto, unfolding(crate::specs::Vocabulary::Packed::around, crate::specs::Vocabulary::Packed::packed_value, terms::specs::Vocabulary::Answers::as_value))]
 pub extern "C" fn probe_expression(
     s: &[u8],
     at: usize,
@@ -89,7 +88,6 @@ pub extern "C" fn probe_expression(
 }
 
 #[unsafe(no_mangle)]
-#[tactic(auto, unfolding(crate::specs::Vocabulary::Packed::around, crate::specs::Vocabulary::Packed::packed_value, terms::specs::Vocabulary::Answers::as_value))]
 pub extern "C" fn probe_guard(
     s: &[u8],
     at: usize,
