@@ -19,7 +19,6 @@ use Rattle.terms.proofs.Following.{mapped_got}
 use Rattle.code.specs.declared.ReadCode.{ReadCode}
 use Rattle.code.specs.declared.ReadStatement.TheVariants as Read
 use Rattle.code.specs.declared.Shape.{Shape}
-use Rattle.code.specs.declared.Shape.TheVariants as Shape
 use Rattle.code.specs.Blocks.{shape_of, shape_number, until_else, until_fi, until_od, opening, closing, through_all}
 use Rattle.code.specs.Partners.{goes_from, goes_to}
 use Rattle.code.specs.Reader.{statement}

@@ -1,5 +1,6 @@
 // Where an object and a call stand in the model, found in the table of its text in constant time.
 #![tactic(auto)]
+
 ghost use Rattle.std.specs.Prelude.{true, ◌≡◌, ◌≤◌, ◌<◌, pos};
 ghost use Rattle.std.proofs.Math.Option.{some};
 ghost use Rattle.std.proofs.Math.ListN.{get_elem?};
@@ -57,7 +58,7 @@ pub enum StandingFound {
 }
 
 // The class that a cell names.
-#[tactic(auto, using(crate::proofs::Saying::class_is, crate::proofs::Saying::class_not, crate::proofs::Saying::class_past, model::proofs::Lookup::classes_at, whole::proofs::Ranges::natural_none, whole::proofs::Ranges::natural_some))]
+#[tactic(auto, using(crate::proofs::Saying::class_is, crate::proofs::Saying::class_not, model::proofs::Lookup::classes_at, whole::proofs::Ranges::natural_none, whole::proofs::Ranges::natural_some))]
 fn class_at(table: &[u16], z: i32) -> ClassFound
     requires { Found.Told table.now }
     ensures { (s : Text) (m : Model.Model) → Belongs s table.now m → Found.ClassSaid m z result }
@@ -65,7 +66,8 @@ fn class_at(table: &[u16], z: i32) -> ClassFound
     match whole::as_natural(z) {
         Natural::Not => ClassFound::Nothing,
         Natural::Is(k) => {
-            if k < table::classes(table) as usize {
+            let there = k < table::classes(table) as usize;
+            if there {
                 ClassFound::Is(k as u32)
             } else {
                 ClassFound::Nothing
@@ -75,7 +77,7 @@ fn class_at(table: &[u16], z: i32) -> ClassFound
 }
 
 // An object's class.
-#[tactic(auto, using(whole::proofs::Ranges::handed), unfolding(layout::specs::Layout::of_object))]
+#[tactic(auto, using(whole::proofs::Ranges::handed))]
 pub fn class_of(table: &[u16], cells: &[i32], o: ObjectNumber) -> ClassFound
     requires { Found.Told table.now }
     ensures { (s : Text) (m : Model.Model) → Belongs s table.now m → Found.ClassSaid m (Layout.of_object cells.now o.0 Layout.class) result }
@@ -84,7 +86,6 @@ pub fn class_of(table: &[u16], cells: &[i32], o: ObjectNumber) -> ClassFound
 }
 
 // A method of a class, if it takes so many arguments.
-#[tactic(auto, using(crate::proofs::Saying::taken_is, crate::proofs::Saying::taken_not, model::proofs::Lookup::method_at), unfolding(crate::specs::Vocabulary::Found::BodySaid, crate::specs::Vocabulary::Found::taken))]
 fn takes(table: &[u16], class: u32, attrs: u32, method: u32, args: i32) -> BodyFound
     requires told { Found.Told table.now }
     requires class_bound { class < 16 }
@@ -105,7 +106,7 @@ fn takes(table: &[u16], class: u32, attrs: u32, method: u32, args: i32) -> BodyF
 }
 
 // "if the callee's class has the method with as many params as args": the method of a class.
-#[tactic(auto, using(crate::proofs::Saying::bound_is, crate::proofs::Saying::bound_not, crate::proofs::Saying::bound_past, crate::proofs::Saying::class_few, crate::proofs::Saying::method_few, model::proofs::Lookup::class_at, model::proofs::TableRows::item_at, whole::proofs::Ranges::natural_none, whole::proofs::Ranges::natural_some), unfolding(crate::specs::Vocabulary::Found::BodySaid, crate::specs::Vocabulary::Found::bound_to, model::specs::Vocabulary::Table::classes_in))]
+#[tactic(auto, using(crate::proofs::Saying::bound_not, crate::proofs::Saying::class_few, crate::proofs::Saying::method_few, whole::proofs::Ranges::natural_none), unfolding(crate::specs::Vocabulary::Found::BodySaid))]
 fn binds_to(table: &[u16], class: u32, method: i32, args: i32) -> BodyFound
     requires told { Found.Told table.now }
     requires class_bound { class < Table.classes_in table.now }
@@ -125,7 +126,7 @@ fn binds_to(table: &[u16], class: u32, method: i32, args: i32) -> BodyFound
 }
 
 // A call's body: the method that binding finds in its callee's class.
-#[tactic(auto, using(crate::proofs::Saying::body_bound, crate::proofs::Saying::body_nowhere, crate::proofs::Saying::class_within, crate::proofs::Saying::object_is, crate::proofs::Saying::object_missed, whole::proofs::Ranges::handed), unfolding(cells::specs::Standing::body_of, crate::specs::Vocabulary::Found::BodySaid, crate::specs::Vocabulary::Found::ClassSaid, layout::specs::Layout::of_call, layout::specs::Layout::read, layout::specs::Stages::objects_in_use, whole::specs::Whole::between))]
+#[tactic(auto, using(crate::proofs::Saying::body_nowhere, crate::proofs::Saying::object_is, crate::proofs::Saying::object_missed, whole::proofs::Ranges::handed), unfolding(crate::specs::Vocabulary::Found::BodySaid))]
 pub fn body_of(table: &[u16], cells: &[i32], l: Label) -> BodyFound
     requires told { Found.Told table.now }
     requires cells_bound { Stages.objects_in_use cells.now ≤ Layout.object_rows }
@@ -147,7 +148,7 @@ pub fn body_of(table: &[u16], cells: &[i32], l: Label) -> BodyFound
 }
 
 // Where a call stands: its body, and the line inside it.
-#[tactic(auto, using(crate::proofs::Saying::stands_at, crate::proofs::Saying::stands_not, crate::proofs::Saying::stands_nowhere, crate::proofs::Saying::stands_past, model::proofs::TableRows::item_at, whole::proofs::Ranges::handed, whole::proofs::Ranges::natural_none, whole::proofs::Ranges::natural_some), unfolding(crate::specs::Vocabulary::Found::BodySaid, crate::specs::Vocabulary::Found::StandingSaid, layout::specs::Layout::of_call, layout::specs::Layout::read, layout::specs::Stages::objects_in_use, whole::specs::Whole::between))]
+#[tactic(auto, using(crate::proofs::Saying::stands_not, crate::proofs::Saying::stands_nowhere, crate::proofs::Saying::stands_past, whole::proofs::Ranges::handed, whole::proofs::Ranges::natural_none, whole::proofs::Ranges::natural_some), unfolding(crate::specs::Vocabulary::Found::BodySaid, crate::specs::Vocabulary::Found::StandingSaid))]
 pub fn standing_of(table: &[u16], cells: &[i32], l: Label) -> StandingFound
     requires told { Found.Told table.now }
     requires cells_bound { Stages.objects_in_use cells.now ≤ Layout.object_rows }
@@ -173,7 +174,7 @@ pub fn standing_of(table: &[u16], cells: &[i32], l: Label) -> StandingFound
 }
 
 // A class of the model has run 1; one that is not there has not.
-#[tactic(auto, using(crate::proofs::Saying::class_few, crate::proofs::Saying::runs_at, crate::proofs::Saying::runs_past, model::proofs::Lookup::class_at, model::proofs::Lookup::classes_at, model::proofs::TableRows::item_at), unfolding(rules::specs::Exec::class_runs))]
+#[tactic(auto, using(crate::proofs::Saying::class_few, crate::proofs::Saying::runs_past, model::proofs::Lookup::classes_at))]
 pub fn class_runs(table: &[u16], class: u32) -> bool
     requires { Found.Told table.now }
     ensures { (s : Text) (m : Model.Model) → Belongs s table.now m → result ≡ class_runs m class }

@@ -22,7 +22,7 @@ pub fn shape(shapes: &[u8], at: Standing) -> u8
 }
 
 // The line that it goes to, by the shapes of all lines of its body.
-#[tactic(auto, using(crate::proofs::Reading::goes_few), unfolding(code::specs::Partners::goes_to, crate::specs::Vocabulary::Found::shapes_at))]
+#[tactic(auto, using(crate::proofs::Reading::goes_few), unfolding(crate::specs::Vocabulary::Found::shapes_at))]
 pub fn goes_to(shapes: &[u8], at: Standing) -> u32
     requires { Found.Lined shapes.now at }
     ensures { result ≡ Partners.goes_to (Found.shapes_at shapes.now at.body) at.line }
@@ -36,7 +36,7 @@ pub fn goes_to(shapes: &[u8], at: Standing) -> u32
 }
 
 // Its statement: the bytes that its row leads to, read with the values worked out.
-#[tactic(auto, unfolding(crate::specs::Vocabulary::Found::around, model::specs::Vocabulary::Belonging::value_in, model::specs::Vocabulary::Table::classes_in, model::specs::Vocabulary::Table::row_at))]
+#[tactic(auto, unfolding(crate::specs::Vocabulary::Found::around, model::specs::Vocabulary::Belonging::value_in))]
 pub fn statement(text: &[u8], table: &[u16], cells: &[i32], here: Here, at: Standing) -> ReadCode
     requires table_len { length table.now ≡ Table.table_size }
     requires table_nonzero { 0 < Table.classes_in table.now }
