@@ -27,7 +27,7 @@ const AWAIT: u8 = 6;
 const RETURN: u8 = 5;
 
 // "Stage is 1..7, caller 0..objects, callee 1..objects, method 0..7."
-#[tactic(auto, using(crate::proofs::Tests::held, crate::proofs::Tests::last, crate::proofs::Tests::passed, crate::proofs::Tests::stopped, crate::proofs::Tests::unheld, whole::proofs::Ranges::handed), unfolding(cells::specs::Configuration::numbers_hold))]
+#[tactic(auto, using(crate::proofs::Tests::last, crate::proofs::Tests::passed, crate::proofs::Tests::stopped, whole::proofs::Ranges::handed), unfolding(cells::specs::Configuration::numbers_hold))]
 fn numbers_hold(cells: &[i32], l: Label) -> bool
     ensures { (m : Model) → result ≡ Configuration.numbers_hold m cells.now l.0 }
 {
@@ -45,7 +45,7 @@ fn numbers_hold(cells: &[i32], l: Label) -> bool
 }
 
 // "each stage 4 call is its callee's running label"
-#[tactic(auto, using(crate::proofs::Tests::unasked, crate::proofs::Tests::under, whole::proofs::Ranges::handed, whole::proofs::Tested::nat_of), unfolding(cells::specs::Configuration::named_by_callee, layout::specs::Layout::of_call))]
+#[tactic(auto, using(crate::proofs::Tests::unasked, crate::proofs::Tests::under, whole::proofs::Ranges::handed, whole::proofs::Tested::nat_of), unfolding(cells::specs::Configuration::named_by_callee))]
 fn named_by_callee(cells: &[i32], o: ObjectNumber, l: Label) -> bool
     requires { Layout.of_call cells.now l.0 Layout.callee ≡ pos o.0 }
     ensures { (m : Model) → result ≡ Configuration.named_by_callee m cells.now l.0 }
@@ -58,7 +58,7 @@ fn named_by_callee(cells: &[i32], o: ObjectNumber, l: Label) -> bool
 }
 
 // "v cells from .. on are 0"
-#[tactic(auto, using(crate::proofs::ZeroFields::field_held, crate::proofs::ZeroFields::field_zero, crate::proofs::ZeroFields::none_left, whole::proofs::Ranges::same_bits), unfolding(cells::specs::Configuration::zero_from, layout::specs::Layout::of_call))]
+#[tactic(auto, using(crate::proofs::ZeroFields::none_left))]
 fn locals_zero(cells: &[i32], l: Label, from: u32) -> bool
     requires { from ≤ Layout.most_locals }
     ensures { result ≡ Configuration.zero_from Layout.most_locals from (λ i. Layout.of_call cells.now l.0 (Layout.local i)) }
@@ -74,7 +74,7 @@ fn locals_zero(cells: &[i32], l: Label, from: u32) -> bool
 }
 
 // "In stages 1 and 2 args is 0..4, v cells from args on and line are 0."
-#[tactic(auto, using(crate::proofs::Tests::held, crate::proofs::Tests::last, crate::proofs::Tests::passed, crate::proofs::Tests::stopped, crate::proofs::Tests::unheld, whole::proofs::Both::both_right, whole::proofs::Ranges::handed), unfolding(cells::specs::Configuration::unbound_holds, whole::specs::Whole::between, whole::specs::Whole::nat))]
+#[tactic(auto, using(crate::proofs::Tests::last, crate::proofs::Tests::passed, crate::proofs::Tests::stopped, whole::proofs::Both::both_right, whole::proofs::Ranges::handed), unfolding(cells::specs::Configuration::unbound_holds, whole::specs::Whole::between, whole::specs::Whole::nat))]
 fn unbound_holds(cells: &[i32], l: Label) -> bool
     ensures { (m : Model) → result ≡ Configuration.unbound_holds m cells.now l.0 }
 {
@@ -93,7 +93,7 @@ fn unbound_holds(cells: &[i32], l: Label) -> bool
 
 // At a line of a shape: "Cleared .. is 1 only in stages 3 and 4 at an await line; in stage 3 with cleared 0 the line is 0. .. in 5 to 7 the
 // line is a return."
-#[tactic(auto, using(crate::proofs::AtLine::at_await, crate::proofs::AtLine::elsewhere, crate::proofs::AtLine::not_await, crate::proofs::AtLine::suspended, crate::proofs::Tests::eqb_swap, crate::proofs::Tests::second_fails, crate::proofs::Tests::stopped, crate::proofs::Tests::unasked, crate::proofs::Tests::under, whole::proofs::Ranges::handed), unfolding(cells::specs::Configuration::line_holds, code::specs::Blocks::is_shape, code::specs::Blocks::shape_number, code::specs::Blocks::shape_of))]
+#[tactic(auto, using(crate::proofs::AtLine::elsewhere, crate::proofs::AtLine::not_await, crate::proofs::Tests::eqb_swap, crate::proofs::Tests::second_fails, crate::proofs::Tests::stopped, crate::proofs::Tests::unasked, crate::proofs::Tests::under, whole::proofs::Ranges::handed), unfolding(code::specs::Blocks::is_shape, code::specs::Blocks::shape_number))]
 fn line_holds(cells: &[i32], l: Label, shape: u8) -> bool
     ensures { (m : Model) (s : Code) → shape ≡ Blocks.shape_number (Blocks.shape_of s) → result ≡ Configuration.line_holds m cells.now l.0 s }
 {
@@ -117,7 +117,7 @@ fn line_holds(cells: &[i32], l: Label, shape: u8) -> bool
 }
 
 // "From stage 3 the callee's class has the method, args is its params, line is inside it, v cells from locals on are 0."
-#[tactic(auto, using(crate::proofs::Said::not_standing, crate::proofs::Said::standing, crate::proofs::Tests::passed, crate::proofs::Tests::stopped, lookup::proofs::Reading::accepted, lookup::proofs::Reading::line_shape, lookup::proofs::Reading::line_stands, lookup::proofs::Reading::told, model::proofs::AcceptedAt::method_accepted), unfolding(cells::specs::Configuration::bound_holds, layout::specs::Layout::of_call, layout::specs::Layout::read, layout::specs::Stages::objects_in_use, lookup::specs::Vocabulary::Found::StandingSaid, model::specs::Vocabulary::Known::model_of, whole::specs::Whole::between))]
+#[tactic(auto, using(crate::proofs::Said::not_standing, crate::proofs::Said::standing, crate::proofs::Tests::stopped, lookup::proofs::Reading::line_stands, lookup::proofs::Reading::told), unfolding(cells::specs::Configuration::bound_holds, lookup::specs::Vocabulary::Found::StandingSaid))]
 fn bound_holds(text: &[u8], table: &[u16], shapes: &[u8], cells: &[i32], l: Label) -> bool
     requires known { Known.Known text.now table.now shapes.now }
     requires cells_bound { Stages.objects_in_use cells.now ≤ Layout.object_rows }
@@ -138,7 +138,7 @@ fn bound_holds(text: &[u8], table: &[u16], shapes: &[u8], cells: &[i32], l: Labe
 }
 
 // "Caller 0 stands only in stages 3, 4 and 7, with method 0 of a class with run 1."
-#[tactic(auto, using(crate::proofs::Said::classless, crate::proofs::Said::of_class, crate::proofs::Said::runs_classed, crate::proofs::Said::runs_classless, crate::proofs::Said::runs_of, crate::proofs::Tests::held, crate::proofs::Tests::last, crate::proofs::Tests::passed, crate::proofs::Tests::stopped, crate::proofs::Tests::unasked, crate::proofs::Tests::under, crate::proofs::Tests::unheld, whole::proofs::Ranges::handed, whole::proofs::Tested::nat_of), unfolding(cells::specs::Configuration::callerless_holds, layout::specs::Layout::of_call, lookup::specs::Vocabulary::Found::ClassSaid))]
+#[tactic(auto, using(crate::proofs::Said::classless, crate::proofs::Said::of_class, crate::proofs::Said::runs_classed, crate::proofs::Said::runs_classless, crate::proofs::Tests::last, crate::proofs::Tests::passed, crate::proofs::Tests::stopped, crate::proofs::Tests::unasked, crate::proofs::Tests::under, whole::proofs::Ranges::handed, whole::proofs::Tested::nat_of), unfolding(cells::specs::Configuration::callerless_holds, lookup::specs::Vocabulary::Found::ClassSaid))]
 fn callerless_holds(table: &[u16], cells: &[i32], o: ObjectNumber, l: Label) -> bool
     requires told { Found.Told table.now }
     requires l_value { Layout.of_call cells.now l.0 Layout.callee ≡ pos o.0 }
@@ -160,7 +160,7 @@ fn callerless_holds(table: &[u16], cells: &[i32], o: ObjectNumber, l: Label) -> 
 }
 
 // "stages 3, 4 and 7"
-#[tactic(auto, using(crate::proofs::Tests::one, crate::proofs::Tests::other), unfolding(layout::specs::Stages::in_stage, layout::specs::Stages::in_stages))]
+#[tactic(auto, using(crate::proofs::Tests::one, crate::proofs::Tests::other))]
 fn in_callerless_stage(cells: &[i32], l: Label) -> bool
     ensures { result ≡ (Stages.in_stages cells.now l.0 Stages.bound Stages.running || Stages.in_stage cells.now l.0 Stages.taken) }
 {
@@ -172,7 +172,7 @@ fn in_callerless_stage(cells: &[i32], l: Label) -> bool
 }
 
 // "Cleared is 0 or 1", "Value is 0 below stage 5"
-#[tactic(auto, using(crate::proofs::Tests::held, crate::proofs::Tests::one, crate::proofs::Tests::other, crate::proofs::Tests::passed, crate::proofs::Tests::stopped, crate::proofs::Tests::unheld, whole::proofs::Ranges::handed), unfolding(layout::specs::Layout::of_call, layout::specs::Stages::in_stages, whole::specs::Whole::between))]
+#[tactic(auto, using(crate::proofs::Tests::one, crate::proofs::Tests::other, crate::proofs::Tests::passed, crate::proofs::Tests::stopped, whole::proofs::Ranges::handed))]
 fn marks_hold(cells: &[i32], l: Label) -> bool
     ensures { result ≡ (Whole.between (pos 0) (pos 1) (Layout.of_call cells.now l.0 Layout.cleared) && (Stages.in_stages cells.now l.0 Stages.answered Stages.taken || Configuration.is (Layout.of_call cells.now l.0 Layout.value) 0)) }
 {
@@ -186,7 +186,7 @@ fn marks_hold(cells: &[i32], l: Label) -> bool
 }
 
 // From stage 3 on, and before it.
-#[tactic(auto, using(crate::proofs::InTurn::before_bound, crate::proofs::InTurn::from_bound), unfolding(cells::specs::Configuration::bound_holds, cells::specs::Configuration::unbound_holds, layout::specs::Layout::of_call, layout::specs::Layout::read, layout::specs::Stages::in_stages, layout::specs::Stages::objects_in_use, model::specs::Vocabulary::Known::model_of, whole::specs::Whole::between))]
+#[tactic(auto, using(crate::proofs::InTurn::from_bound))]
 fn stage_holds(text: &[u8], table: &[u16], shapes: &[u8], cells: &[i32], l: Label) -> bool
     requires known { Known.Known text.now table.now shapes.now }
     requires cells_bound { Stages.objects_in_use cells.now ≤ Layout.object_rows }
@@ -201,7 +201,7 @@ fn stage_holds(text: &[u8], table: &[u16], shapes: &[u8], cells: &[i32], l: Labe
 }
 
 // All that must hold of a call in use.
-#[tactic(auto, using(crate::proofs::InTurn::callee_in_use, crate::proofs::InTurn::in_turn, crate::proofs::InTurn::staged, crate::proofs::Tests::held, crate::proofs::Tests::passed, crate::proofs::Tests::stopped, crate::proofs::Tests::unheld, lookup::proofs::Reading::told, lookup::proofs::Saying::object_is, lookup::proofs::Saying::object_missed, whole::proofs::Ranges::handed, whole::proofs::Tested::of_natural), unfolding(cells::specs::Configuration::call_holds, layout::specs::Stages::objects_in_use, model::specs::Vocabulary::Known::model_of))]
+#[tactic(auto, using(crate::proofs::InTurn::callee_in_use, crate::proofs::InTurn::in_turn, crate::proofs::Tests::passed, crate::proofs::Tests::stopped, lookup::proofs::Reading::told, lookup::proofs::Saying::object_missed, whole::proofs::Ranges::handed), unfolding(cells::specs::Configuration::call_holds))]
 pub fn call_holds(text: &[u8], table: &[u16], shapes: &[u8], cells: &[i32], l: Label) -> bool
     requires known { Known.Known text.now table.now shapes.now }
     requires cells_bound { Stages.objects_in_use cells.now ≤ Layout.object_rows }

@@ -1,5 +1,6 @@
 // 11 in code: whether cells are a configuration of the model whose table this is. One pass, and no cell is trusted before its test.
 #![tactic(auto)]
+
 ghost use Rattle.std.specs.Prelude.{◌&&◌, ◌≡◌, ◌≤◌, pos, length};
 ghost use Rattle.whole.specs.Plain.{all_to};
 ghost use Rattle.whole.specs.Whole as Whole;
@@ -18,7 +19,7 @@ pub mod calls;
 pub mod objects;
 
 // What holds of each object in use.
-#[tactic(auto, using(crate::proofs::Tests::held, crate::proofs::Tests::unheld, crate::proofs::Whole::last_failed, crate::proofs::Whole::last_held, crate::proofs::Whole::none_asked), unfolding(cells::specs::Configuration::object_holds, whole::specs::Plain::all_to))]
+#[tactic(auto, using(crate::proofs::Whole::last_failed, crate::proofs::Whole::last_held, crate::proofs::Whole::none_asked), unfolding(whole::specs::Plain::all_to))]
 fn all_objects(table: &[u16], cells: &[i32], objects: usize) -> bool
     requires told { Found.Told table.now }
     requires objects_bound { objects ≤ Layout.object_rows }
@@ -35,7 +36,7 @@ fn all_objects(table: &[u16], cells: &[i32], objects: usize) -> bool
 }
 
 // What holds of each call in use.
-#[tactic(auto, using(crate::proofs::Tests::held, crate::proofs::Tests::unheld, crate::proofs::Whole::last_failed, crate::proofs::Whole::last_held, crate::proofs::Whole::none_asked), unfolding(cells::specs::Configuration::call_holds, layout::specs::Stages::objects_in_use, model::specs::Vocabulary::Known::model_of, whole::specs::Plain::all_to))]
+#[tactic(auto, using(crate::proofs::Whole::last_failed, crate::proofs::Whole::last_held, crate::proofs::Whole::none_asked), unfolding(whole::specs::Plain::all_to))]
 fn all_calls(text: &[u8], table: &[u16], shapes: &[u8], cells: &[i32], calls: usize) -> bool
     requires known { Known.Known text.now table.now shapes.now }
     requires calls_bound { calls ≤ Layout.call_rows }
@@ -53,7 +54,7 @@ fn all_calls(text: &[u8], table: &[u16], shapes: &[u8], cells: &[i32], calls: us
 }
 
 // "objects 1..32, calls 1..128"
-#[tactic(auto, using(crate::proofs::Tests::passed, crate::proofs::Tests::stopped, whole::proofs::Ranges::handed), unfolding(layout::specs::Layout::read, whole::specs::Whole::between))]
+#[tactic(auto, using(crate::proofs::Tests::passed, crate::proofs::Tests::stopped, whole::proofs::Ranges::handed))]
 fn counts_hold(cells: &[i32]) -> bool
     ensures { result ≡ (Whole.between (pos 1) (pos Layout.object_rows) (Layout.read cells.now Layout.objects) && Whole.between (pos 1) (pos Layout.call_rows) (Layout.read cells.now Layout.calls)) }
 {
@@ -65,7 +66,7 @@ fn counts_hold(cells: &[i32]) -> bool
 }
 
 // Whether cells, as many as a configuration has, are one of the model.
-#[tactic(auto, using(crate::proofs::Tests::held, crate::proofs::Tests::passed, crate::proofs::Tests::stopped, crate::proofs::Tests::unheld, crate::proofs::Whole::counts, crate::proofs::Whole::counts_right, crate::proofs::Whole::counts_wrong, crate::proofs::Whole::few_calls, crate::proofs::Whole::few_objects, lookup::proofs::Reading::told), unfolding(cells::specs::Configuration::is_configuration, model::specs::Vocabulary::Known::model_of))]
+#[tactic(auto, using(crate::proofs::Tests::passed, crate::proofs::Tests::stopped, crate::proofs::Whole::counts_right, crate::proofs::Whole::counts_wrong, crate::proofs::Whole::few_calls, crate::proofs::Whole::few_objects, lookup::proofs::Reading::told), unfolding(cells::specs::Configuration::is_configuration))]
 pub fn is_configuration(text: &[u8], table: &[u16], shapes: &[u8], cells: &[i32]) -> bool
     requires known { Known.Known text.now table.now shapes.now }
     requires cells_len { length cells.now ≡ Layout.all_cells }

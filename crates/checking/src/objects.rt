@@ -12,7 +12,7 @@ use lookup::ClassFound;
 use model::table;
 
 // "attributes from attrs on are 0"
-#[tactic(auto, using(crate::proofs::ZeroFields::field_held, crate::proofs::ZeroFields::field_zero, crate::proofs::ZeroFields::none_left, whole::proofs::Ranges::same_bits), unfolding(cells::specs::Configuration::zero_from, layout::specs::Layout::of_object))]
+#[tactic(auto, using(crate::proofs::ZeroFields::none_left))]
 fn attributes_zero(cells: &[i32], o: ObjectNumber, from: u32) -> bool
     requires { from ≤ Layout.most_attributes }
     ensures { result ≡ Configuration.zero_from Layout.most_attributes from (λ i. Layout.of_object cells.now o.0 (Layout.attribute i)) }
@@ -49,7 +49,7 @@ fn running_named(cells: &[i32], o: ObjectNumber) -> bool
 }
 
 // "each class exists; attributes from attrs on are 0"
-#[tactic(auto, using(crate::proofs::Said::attributes_few, crate::proofs::Said::classless, crate::proofs::Said::object_classed, crate::proofs::Said::object_classless, crate::proofs::Said::of_class, crate::proofs::Said::row_there, crate::proofs::Tests::passed, crate::proofs::Tests::stopped, model::proofs::Lookup::class_at), unfolding(cells::specs::Configuration::object_holds, lookup::specs::Vocabulary::Found::ClassSaid))]
+#[tactic(auto, using(crate::proofs::Said::classless, crate::proofs::Said::object_classless))]
 pub fn object_holds(table: &[u16], cells: &[i32], o: ObjectNumber) -> bool
     requires { Found.Told table.now }
     ensures { (s : Text) (m : Model) → Belongs s table.now m → result ≡ Configuration.object_holds m cells.now o.0 }
