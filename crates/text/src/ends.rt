@@ -11,7 +11,7 @@ pub const LONGEST_LINE: usize = 120;
 const GROUP: usize = 8;
 
 // "bytes from 32 to 126"
-#[tactic(auto, using(crate::proofs::Plain::plain_below, crate::proofs::Plain::plain_from), unfolding(crate::specs::Lines::plain_byte))]
+#[tactic(auto, unfolding(crate::specs::Lines::plain_byte))]
 fn is_plain(b: u8) -> bool
     ensures { result ≡ Lines.plain_byte b }
 {
@@ -19,7 +19,7 @@ fn is_plain(b: u8) -> bool
 }
 
 // Whether a group of bytes is plain.
-#[tactic(auto, using(crate::proofs::Plain::plain_more, crate::proofs::Plain::plain_start), unfolding(crate::specs::Lines::plain_bytes))]
+#[tactic(auto, using(crate::proofs::Plain::plain_more), unfolding(crate::specs::Lines::plain_bytes))]
 fn is_plain_group(text: &[u8], at: usize) -> bool
     requires { at + 8 ≤ length text.now }
     ensures { result ≡ Lines.plain_bytes (take 8 (drop at text.now)) }
@@ -34,7 +34,7 @@ fn is_plain_group(text: &[u8], at: usize) -> bool
 }
 
 // A place behind plain bytes: past each whole group of them, up to the first that is not.
-#[tactic(auto, using(crate::proofs::Plain::plain_begun, crate::proofs::Plain::plain_past), unfolding(crate::specs::Lines::plain_bytes))]
+#[tactic(auto, using(crate::proofs::Plain::plain_begun, crate::proofs::Plain::plain_past))]
 fn past_groups(text: &[u8], at: usize, stop: usize) -> usize
     requires { (at ≤ stop) × (stop ≤ length text.now) }
     ensures within { (at ≤ result) × (result ≤ stop) }
@@ -63,7 +63,7 @@ fn search_end(long: usize, at: usize) -> usize
 }
 
 // The end of the line that begins at a place, found and tested in one pass.
-#[tactic(auto, using(crate::proofs::SoundEnds::end_from_plain, crate::proofs::SoundEnds::end_here, crate::proofs::SoundEnds::end_onward, crate::proofs::SoundEnds::end_outside, crate::proofs::SoundEnds::end_stopped), unfolding(crate::specs::Vocabulary::LineEnds::sound_end))]
+#[tactic(auto, using(crate::proofs::SoundEnds::end_from_plain, crate::proofs::SoundEnds::end_here, crate::proofs::SoundEnds::end_onward, crate::proofs::SoundEnds::end_outside, crate::proofs::SoundEnds::end_stopped))]
 pub fn sound_line(text: &[u8], at: usize) -> LineFound
     requires { at ≤ length text.now }
     ensures { result ≡ LineEnds.sound_end text.now at }

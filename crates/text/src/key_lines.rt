@@ -26,7 +26,7 @@ pub fn key_line(text: &[u8], place: usize, key: &[u8]) -> Keyed
 }
 
 // A line with a number from its lowest to its highest.
-#[tactic(auto, using(crate::proofs::KeyLines::key_missed, crate::proofs::NumberLines::number_behind, crate::proofs::NumberLines::number_missed, crate::proofs::NumberLines::number_read, terms::proofs::Answers::number_bad, terms::proofs::Answers::number_got, terms::proofs::Answers::word_bad, terms::proofs::Answers::word_got, terms::proofs::Moving::no_got, terms::proofs::Moving::same_place), unfolding(crate::specs::InOrder::number_line, crate::specs::Lines::plain_bytes, crate::specs::Vocabulary::Readings::Tells))]
+#[tactic(auto, using(crate::proofs::KeyLines::key_missed, crate::proofs::NumberLines::number_behind, crate::proofs::NumberLines::number_missed, crate::proofs::NumberLines::number_read, terms::proofs::Answers::number_bad, terms::proofs::Answers::number_got, terms::proofs::Answers::word_bad, terms::proofs::Answers::word_got), unfolding(crate::specs::InOrder::number_line, crate::specs::Vocabulary::Readings::Tells))]
 pub fn number_line(text: &[u8], at: At, key: &[u8], lowest: u32, highest: u32) -> Read
     requires placed { Readings.Placed text.now at }
     requires key_value { Lines.plain_bytes key.now ≡ true }
@@ -56,7 +56,7 @@ pub fn number_line(text: &[u8], at: At, key: &[u8], lowest: u32, highest: u32) -
 
 // The verdict on a line that a number refuses unless it is broken: "the lowest number that applies there". "a text ended early names the line
 // after its last"
-#[tactic(auto, using(crate::proofs::KeyLines::fault_broken, crate::proofs::KeyLines::fault_ended, crate::proofs::KeyLines::fault_sound, crate::proofs::SoundEnds::broken_found, crate::proofs::SoundEnds::sound_found))]
+#[tactic(auto, using(crate::proofs::KeyLines::fault_broken, crate::proofs::KeyLines::fault_ended, crate::proofs::SoundEnds::broken_found))]
 pub fn fault(text: &[u8], number: u32, at: At) -> Verdict
     ensures { result ≡ Readings.fault text.now number at }
 {

@@ -6,7 +6,7 @@ ghost use Rattle.text.specs.Vocabulary.KeyLines as KeyLines;
 use terms::{ReadNumber, leaves};
 
 // A decimal from its lowest to its highest, with an LF behind it.
-#[tactic(auto, using(crate::proofs::NumberLines::fed_below, crate::proofs::NumberLines::fed_none, crate::proofs::NumberLines::fed_unfed, crate::proofs::NumberLines::fed_within, terms::proofs::Answers::number_bad, terms::proofs::Answers::number_got), unfolding(crate::specs::Vocabulary::KeyLines::fed_number, terms::specs::Vocabulary::Answers::as_number))]
+#[tactic(auto, using(crate::proofs::NumberLines::fed_below, crate::proofs::NumberLines::fed_none, crate::proofs::NumberLines::fed_unfed, terms::proofs::Answers::number_bad, terms::proofs::Answers::number_got), unfolding(terms::specs::Vocabulary::Answers::as_number))]
 pub fn fed_number(text: &[u8], at: usize, lowest: u32, highest: u32) -> ReadNumber
     ensures { result ≡ Answers.as_number (KeyLines.fed_number lowest highest text.now at) }
 {
