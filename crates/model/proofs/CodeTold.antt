@@ -18,7 +18,6 @@ use Rattle.terms.proofs.Gives.{Gives}
 use Rattle.text.specs.InOrder.{wrong, right}
 use Rattle.text.proofs.Bringing.{Brings, TakenAs, brings_key, Along, InTurn}
 use Rattle.code.specs.declared.Shape.{Shape}
-use Rattle.code.specs.declared.Shape.TheVariants as Shape
 use Rattle.code.specs.Blocks.{Block, is_shape, shape_of, through, through_all}
 use Rattle.code.specs.Reader.{statement}
 use Rattle.code.specs.Statements.{Code}

@@ -1,5 +1,5 @@
 -- So many of a thing, read one after another while the table is filled. Assumes nothing.
-use Prim.Native.Nat.{ℕ, ◌+◌, ◌-◌, ◌≤◌, ◌<◌}
+use Prim.Native.Nat.{ℕ, ◌+◌, ◌≤◌, ◌<◌}
 use mathlib.Core.Bool.{true}
 use mathlib.Core.List.{List, [], ◌∷◌, ◌++◌}
 use mathlib.Core.Path.{◌≡◌, refl, ap, subst, ◌∙◌}
@@ -11,7 +11,6 @@ use Rattle.whole.specs.Lists.{EachFrom}
 use Rattle.terms.specs.Bytes.{Text}
 use Rattle.text.specs.declared.At.{At}
 use Rattle.text.specs.declared.Read.{Read}
-use Rattle.text.specs.declared.Read.TheVariants as Read
 use Rattle.text.specs.InOrder.{Reader, each}
 use Rattle.text.specs.Vocabulary.Readings.{Placed, read_at, Tells}
 use Rattle.text.proofs.Onward.{told_got}

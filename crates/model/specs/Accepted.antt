@@ -5,7 +5,6 @@ use Rattle.std.proofs.Math.ListN.{get_elem?}
 use Rattle.whole.specs.Lists.{Every, EachFrom, total_of}
 use Rattle.layout.specs.Layout.{most_attributes, most_locals}
 use Rattle.code.specs.declared.Shape.{Shape}
-use Rattle.code.specs.declared.Shape.TheVariants as Shape
 use Rattle.code.specs.Blocks.{Block, shape_of, through_all}
 use Rattle.code.specs.Statements.{Code, new_of}
 use Rattle.code.specs.Within.{CodeWithin}

@@ -10,7 +10,6 @@ use crate::{ClassHead, Row, bounds, methods, table};
 use text::{At, Read, key_lines};
 
 // So many methods, after so many code lines.
-#[tactic(auto, using(crate::proofs::Framing::line_kept, crate::proofs::Framing::method_kept, crate::proofs::Framing::same_self, crate::proofs::Loops::left_more, text::proofs::Onward::told_failed, text::proofs::Onward::told_got, text::proofs::SoMany::passed_all, text::proofs::SoMany::passed_none, text::proofs::SoMany::passed_onward, text::proofs::SoMany::passed_stopped), unfolding(crate::specs::ModelText::read_method, text::specs::InOrder::each, text::specs::Vocabulary::Readings::Tells, whole::specs::Lists::EachFrom))]
 fn all_methods(
     text: &[u8],
     table: &mut [u16],
@@ -42,7 +41,7 @@ fn all_methods(
 }
 
 // A class by its index, after so many code lines.
-#[tactic(auto, using(crate::proofs::Chains::from_attrs, crate::proofs::Chains::from_count, crate::proofs::Chains::from_given, crate::proofs::Chains::from_methods, crate::proofs::Chains::from_run, crate::proofs::Chains::most_if, crate::proofs::Puts::class_put, text::proofs::Onward::number_passed, text::proofs::Onward::number_stops, text::proofs::Onward::tells_made, text::proofs::Onward::told_got), unfolding(crate::specs::ModelText::read_class, text::specs::Lines::plain_byte, text::specs::Lines::plain_bytes))]
+#[tactic(auto, unfolding(text::specs::Lines::plain_byte, text::specs::Lines::plain_bytes))]
 pub fn class(
     text: &[u8],
     table: &mut [u16],
@@ -89,7 +88,6 @@ pub fn class(
 }
 
 // So many classes.
-#[tactic(auto, using(crate::proofs::Framing::class_kept, crate::proofs::Framing::line_kept, crate::proofs::Framing::same_self, crate::proofs::Loops::left_more, text::proofs::Onward::told_failed, text::proofs::Onward::told_got, text::proofs::SoMany::passed_all, text::proofs::SoMany::passed_none, text::proofs::SoMany::passed_onward, text::proofs::SoMany::passed_stopped), unfolding(crate::specs::ModelText::read_class, text::specs::InOrder::each, text::specs::Vocabulary::Readings::Tells, whole::specs::Lists::EachFrom))]
 pub fn all_classes(text: &[u8], table: &mut [u16], shapes: &mut [u8], at: At, count: u32) -> Read
     requires sized { Table.Sized table.old shapes.old }
     requires placed { Readings.Placed text.now at }

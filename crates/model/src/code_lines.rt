@@ -24,7 +24,7 @@ use whole::refusals;
 const TOO_DEEP: u32 = 65536;
 
 // "A method's last line is a `return` outside all blocks." Any other leaves at most eight blocks open.
-#[tactic(auto, using(crate::proofs::CodeValues::last_other, crate::proofs::CodeValues::last_return, crate::proofs::CodeValues::not_last), unfolding(code::specs::Blocks::shape_of, code::specs::Vocabulary::OpenBlocks::packed_blocks, crate::specs::ModelText::may_stand))]
+#[tactic(auto, using(crate::proofs::CodeValues::last_other, crate::proofs::CodeValues::last_return))]
 fn may_stand(last: bool, shape: Shape, blocks: u32) -> bool
     ensures { (c : Code) (bs : List Block) → shape ≡ shape_of c → blocks ≡ packed_blocks bs → result ≡ ModelText.may_stand last c bs }
 {
@@ -35,7 +35,7 @@ fn may_stand(last: bool, shape: Shape, blocks: u32) -> bool
 }
 
 // The blocks that are open after a line, if it may stand there: "blocks unmatched or too deep, last line".
-#[tactic(auto, using(code::proofs::OpenBlocks::open_told, code::proofs::OpenBlocks::unmatched_told, crate::proofs::CodeValues::stood_none, crate::proofs::CodeValues::stood_not, crate::proofs::CodeValues::stood_some), unfolding(code::specs::Blocks::shape_of, code::specs::Blocks::through, code::specs::Vocabulary::OpenBlocks::as_blocks, code::specs::Vocabulary::OpenBlocks::packed_blocks, crate::specs::Vocabulary::Standing::stood))]
+#[tactic(auto, using(code::proofs::OpenBlocks::open_told, code::proofs::OpenBlocks::unmatched_told, crate::proofs::CodeValues::stood_none, crate::proofs::CodeValues::stood_not, crate::proofs::CodeValues::stood_some), unfolding(code::specs::Vocabulary::OpenBlocks::as_blocks, crate::specs::Vocabulary::Standing::stood))]
 fn standing(last: bool, shape: Shape, blocks: u32) -> BlocksAfter
     requires { blocks < 65536 }
     ensures { (c : Code) (bs : List Block) → shape ≡ shape_of c → blocks ≡ packed_blocks bs → result ≡ as_blocks (Standing.stood last c (through (shape_of c) bs)) }
@@ -52,7 +52,7 @@ fn standing(last: bool, shape: Shape, blocks: u32) -> BlocksAfter
 }
 
 // A `new` as one number, of its class and of how many arguments there are; 0 for a line that is none.
-#[tactic(auto, using(code::proofs::Told::is_told, code::proofs::Told::nothing_told), unfolding(code::specs::Vocabulary::Creating::as_new, crate::specs::Vocabulary::Creations::new_number))]
+#[tactic(auto, using(code::proofs::Told::is_told, code::proofs::Told::nothing_told), unfolding(crate::specs::Vocabulary::Creations::new_number))]
 fn new_number(new: NewFound) -> u16
     requires { (k n : ℕ) → new ≡ New.Is k n → (k < 16) × (n ≤ 121) }
     ensures { (o : Option (ℕ × ℕ)) → new ≡ as_new o → result ≡ Creations.new_number o }
@@ -80,7 +80,7 @@ fn around(method: MethodHead) -> Around
 }
 
 // "code value outside the grammar, its numbers and variables included"; then by the blocks that are open.
-#[tactic(auto, using(code::proofs::OpenBlocks::open_told, code::proofs::OpenBlocks::unmatched_told, code::proofs::Told::is_told, crate::proofs::CodeValues::code_bad, crate::proofs::CodeValues::code_stands, crate::proofs::CodeValues::code_stuck, crate::proofs::CodeValues::new_fits_lem, crate::proofs::CodeValues::told), unfolding(code::specs::Vocabulary::OpenBlocks::packed_blocks))]
+#[tactic(auto, using(code::proofs::Told::is_told, crate::proofs::CodeValues::code_bad, crate::proofs::CodeValues::new_fits_lem))]
 fn code_value(value: &[u8], method: MethodHead, last: bool, blocks: u32) -> CodeFound
     requires value_len_bound { length value.now ≤ 120 }
     requires classes_nonzero { (0 < method.classes) × (method.classes ≤ 16) }
@@ -105,7 +105,7 @@ fn code_value(value: &[u8], method: MethodHead, last: bool, blocks: u32) -> Code
 }
 
 // A code line by its index in its method, with so many blocks open.
-#[tactic(auto, using(crate::proofs::CodeRows::line_left, crate::proofs::CodeRows::line_taken, text::proofs::KeyLines::value_failed), unfolding(code::specs::Vocabulary::OpenBlocks::packed_blocks, crate::specs::ModelText::code_line, crate::specs::Vocabulary::Standing::CodeSaid, text::specs::Lines::plain_byte, text::specs::Lines::plain_bytes, text::specs::Vocabulary::Readings::Tells))]
+#[tactic(auto, using(text::proofs::KeyLines::value_failed), unfolding(crate::specs::ModelText::code_line, text::specs::Lines::plain_byte, text::specs::Lines::plain_bytes, text::specs::Vocabulary::Readings::Tells))]
 pub fn code_line(
     text: &[u8],
     table: &mut [u16],

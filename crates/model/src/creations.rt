@@ -10,7 +10,7 @@ use text::Verdict;
 use whole::refusals;
 
 // The arguments that a class is to be given; a class that is not there is given none.
-#[tactic(auto, using(crate::proofs::CountsOfNew::given_none, crate::proofs::CountsOfNew::given_told), unfolding(crate::specs::Judge::given_to))]
+#[tactic(auto, using(crate::proofs::CountsOfNew::given_none, crate::proofs::CountsOfNew::given_told))]
 fn given_to(table: &[u16], classes: u32, class: u32) -> u32
     requires table_len { length table.now ≡ Table.table_size }
     requires classes_bound { classes ≤ 16 }
@@ -24,7 +24,7 @@ fn given_to(table: &[u16], classes: u32, class: u32) -> u32
 }
 
 // A `new` as one number has as many arguments as its class is to be given; a line that is none fits.
-#[tactic(auto, using(crate::proofs::CountsOfNew::fits_none, crate::proofs::CountsOfNew::fits_some), unfolding(crate::specs::Vocabulary::Creations::new_fits))]
+#[tactic(auto, using(crate::proofs::CountsOfNew::fits_none, crate::proofs::CountsOfNew::fits_some))]
 fn fits(table: &[u16], classes: u32, new: u32) -> bool
     requires table_len { length table.now ≡ Table.table_size }
     requires classes_bound { classes ≤ 16 }
@@ -39,7 +39,7 @@ fn fits(table: &[u16], classes: u32, new: u32) -> bool
 }
 
 // Every `new` of a text that passes otherwise, in the order of its lines: the first that does not fit is refused.
-#[tactic(auto, using(crate::proofs::CountsOfNew::counts_end, crate::proofs::CountsOfNew::counts_here, crate::proofs::CountsOfNew::counts_onward, crate::proofs::CountsOfNew::verdict_model, crate::proofs::CountsOfNew::verdict_refusal), unfolding(crate::specs::Judge::counts_judged, crate::specs::Judge::verdict_of))]
+#[tactic(auto, using(crate::proofs::CountsOfNew::counts_end, crate::proofs::CountsOfNew::counts_here, crate::proofs::CountsOfNew::counts_onward, crate::proofs::CountsOfNew::verdict_model, crate::proofs::CountsOfNew::verdict_refusal))]
 pub fn counts_judged(table: &[u16], classes: u32, total: u32) -> Verdict
     requires table_len { length table.now ≡ Table.table_size }
     requires classes_bound { classes ≤ 16 }

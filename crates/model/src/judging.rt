@@ -19,7 +19,7 @@ use whole::refusals;
 const LONGEST_TEXT: usize = 32768;
 
 // The first two lines, "`creol=1`, `classes=` 1..16", and then the classes.
-#[tactic(auto, using(crate::proofs::Chains::from_classes, crate::proofs::Chains::from_edition, crate::proofs::Puts::model_put, text::proofs::Onward::number_passed, text::proofs::Onward::number_stops, text::proofs::Onward::tells_so, text::proofs::Onward::told_got), unfolding(crate::specs::ModelText::read_model, crate::specs::Vocabulary::Creations::creations_from, text::specs::Lines::plain_byte, text::specs::Lines::plain_bytes))]
+#[tactic(auto, unfolding(text::specs::Lines::plain_byte, text::specs::Lines::plain_bytes))]
 fn model(text: &[u8], table: &mut [u16], shapes: &mut [u8]) -> Read
     requires sized { Table.Sized table.old shapes.old }
     requires text_len_bound { length text.now ≤ Lines.longest_text }
@@ -41,7 +41,7 @@ fn model(text: &[u8], table: &mut [u16], shapes: &mut [u8]) -> Read
 
 // The end of a text whose classes are all read: "lines left over" are 3, or 2 where the first of them is broken; and only where none is left
 // the `new`s are judged.
-#[tactic(auto, using(crate::proofs::CountsOfNew::verdict_refusal, crate::proofs::Verdicts::left_none, crate::proofs::Verdicts::left_some), unfolding(crate::specs::Judge::end_judged, crate::specs::Judge::verdict_of, text::specs::Lines::lines))]
+#[tactic(auto, using(crate::proofs::CountsOfNew::verdict_refusal, crate::proofs::Verdicts::left_none, crate::proofs::Verdicts::left_some))]
 fn ended(text: &[u8], table: &[u16], at: At, classes: u32, total: u32) -> Verdict
     requires table_len { length table.now ≡ Table.table_size }
     requires classes_bound { (classes ≤ 16) × (total ≤ 512) }
@@ -54,7 +54,7 @@ fn ended(text: &[u8], table: &[u16], at: At, classes: u32, total: u32) -> Verdic
 }
 
 // The verdict on a text, with the table and the shapes that belong to it where it is accepted.
-#[tactic(auto, using(crate::proofs::Verdicts::all_given, crate::proofs::Verdicts::end_failed, crate::proofs::Verdicts::judged_long, crate::proofs::Verdicts::judged_short, crate::proofs::Verdicts::told_end, crate::proofs::Verdicts::told_refusal, text::proofs::Onward::told_failed, text::proofs::Onward::told_got), unfolding(crate::specs::Judge::judge, crate::specs::Judge::judged))]
+#[tactic(auto, using(crate::proofs::Verdicts::end_failed, crate::proofs::Verdicts::judged_long, crate::proofs::Verdicts::judged_short, crate::proofs::Verdicts::told_refusal, text::proofs::Onward::told_failed), unfolding(crate::specs::Judge::judge))]
 pub fn read(text: &[u8], table: &mut [u16], shapes: &mut [u8]) -> Verdict
     requires { Table.Sized table.old shapes.old }
     ensures value { result ≡ Judge.judge text.now }

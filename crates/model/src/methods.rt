@@ -11,7 +11,7 @@ use crate::{ClassHead, MethodHead, Row, bounds, code_lines, table};
 use text::{At, Read, key_lines};
 
 // So many code lines, from no open block on.
-#[tactic(auto, using(crate::proofs::Loops::lines_all, crate::proofs::Loops::lines_begun_lem, crate::proofs::Loops::lines_onward, text::proofs::Onward::told_failed, text::proofs::SoMany::passed_stopped), unfolding(crate::specs::ModelText::code_line, text::specs::InOrder::each, text::specs::Vocabulary::Readings::Tells))]
+#[tactic(auto, using(crate::proofs::Loops::lines_begun_lem))]
 fn all_lines(text: &[u8], table: &mut [u16], shapes: &mut [u8], at: At, method: MethodHead) -> Read
     requires sized { Table.Sized table.old shapes.old }
     requires placed { Readings.Placed text.now at }
@@ -35,7 +35,7 @@ fn all_lines(text: &[u8], table: &mut [u16], shapes: &mut [u8], at: At, method: 
 }
 
 // A method by its index in its class, after so many code lines.
-#[tactic(auto, using(crate::proofs::Chains::from_code, crate::proofs::Chains::from_lines, crate::proofs::Chains::from_locals, crate::proofs::Chains::from_params, crate::proofs::Chains::most_if, crate::proofs::Puts::method_put, text::proofs::Onward::number_passed, text::proofs::Onward::number_stops, text::proofs::Onward::tells_made, text::proofs::Onward::told_got), unfolding(crate::specs::ModelText::lines_begun, crate::specs::ModelText::read_method, text::specs::Lines::plain_byte, text::specs::Lines::plain_bytes))]
+#[tactic(auto, unfolding(text::specs::Lines::plain_byte, text::specs::Lines::plain_bytes))]
 pub fn method(
     text: &[u8],
     table: &mut [u16],

@@ -72,7 +72,6 @@ pub fn method_place(class: u32, method: u32) -> usize
 }
 
 // A method's row.
-#[tactic(auto, unfolding(crate::specs::Vocabulary::Table::row_at))]
 pub fn method_row(table: &[u16], class: u32, method: u32) -> Row
     requires table_len { length table.now ≡ Table.table_size }
     requires class_bound { class < 16 }

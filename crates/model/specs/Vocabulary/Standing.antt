@@ -28,7 +28,7 @@ stood last c (some bs) = elim (may_stand last c bs) [ true ↦ some bs | false �
 abbrev pub limits_of : MethodHead → Limits
 limits_of m = record { attrs = m.attrs; locals = m.locals }
 
--- what a code value is taken for, with what is carried, as codeLine says
+-- what a code value is taken for, with what is carried, as `code_line` says
 abbrev pub value_taken : Limits → ℕ → Bool → SoFar → ℕ → Text → Taken (Code × SoFar)
 value_taken lim classes last so at value = elim (statement trees guard_trees lim classes value) [
   | bad p ↦ wrong wrong_code
