@@ -1,5 +1,6 @@
 // The forms of a statement performed by an object's running call, all their values worked out. Each tests all before it writes.
 #![tactic(auto)]
+
 ghost use Rattle.std.specs.Prelude.{◌≡◌, ◌≤◌, ◌<◌};
 ghost use Rattle.code.specs.Partners.{goes_to};
 ghost use Rattle.cells.specs.Standing.{Standing, shapes_of};
@@ -16,7 +17,6 @@ pub mod making;
 pub mod writing;
 
 // "An accepted line goes on to the next one unless said otherwise"
-#[tactic(auto, using(crate::proofs::Written::line_written), unfolding(rules::specs::Exec::onward))]
 pub fn onward(cells: &mut [i32], here: Here, line: u32) -> u32
     requires { line < 64 }
     ensures { (m : Model) (st : Standing) → st.at ≡ line → Done cells.old (Next.moved (Exec.onward m cells.old here.object.0 here.label.0 st)) result cells.new }
@@ -26,7 +26,6 @@ pub fn onward(cells: &mut [i32], here: Here, line: u32) -> u32
 }
 
 // The line that a line of a block goes to.
-#[tactic(auto, using(crate::proofs::Written::line_written), unfolding(cells::specs::Standing::shapes_of, code::specs::Partners::goes_to, rules::specs::Exec::jumped))]
 pub fn jumped(cells: &mut [i32], here: Here, to: u32) -> u32
     requires { to ≤ 64 }
     ensures { (m : Model) (st : Standing) → goes_to (shapes_of st.body) st.at ≡ to → Done cells.old (Next.moved (Exec.jumped m cells.old here.object.0 here.label.0 st)) result cells.new }
@@ -36,7 +35,6 @@ pub fn jumped(cells: &mut [i32], here: Here, to: u32) -> u32
 }
 
 // "`set` stores."
-#[tactic(auto, using(crate::proofs::Written::onward_then), unfolding(rules::specs::Exec::assigned))]
 pub fn assigned(cells: &mut [i32], here: Here, line: u32, x: Variable, z: i32) -> u32
     requires { line < 64 }
     ensures { (m : Model) (st : Standing) → st.at ≡ line → Done cells.old (Exec.assigned m cells.old here.object.0 here.label.0 st x z) result cells.new }
@@ -46,7 +44,7 @@ pub fn assigned(cells: &mut [i32], here: Here, line: u32, x: Variable, z: i32) -
 }
 
 // "`set` stores", once its value is worked out.
-#[tactic(auto, using(crate::proofs::Written::did_not_fit, crate::proofs::Written::done_with, crate::proofs::Written::worked_out_lem, whole::proofs::Ranges::handed), unfolding(rules::specs::Exec::assigned, rules::specs::Next::working))]
+#[tactic(auto, using(crate::proofs::Written::done_with, crate::proofs::Written::worked_out_lem, whole::proofs::Ranges::handed), unfolding(rules::specs::Next::working))]
 pub fn set_to(cells: &mut [i32], here: Here, line: u32, x: Variable, w: Worked) -> u32
     requires { line < 64 }
     ensures { (m : Model) (st : Standing) → st.at ≡ line → Done cells.old (Next.working w (Exec.assigned m cells.old here.object.0 here.label.0 st x)) result cells.new }
@@ -58,7 +56,6 @@ pub fn set_to(cells: &mut [i32], here: Here, line: u32, x: Variable, w: Worked) 
 }
 
 // "`get`: if X's value is a label of stage 6 whose caller is this object, Y gets its value and it goes to stage 7."
-#[tactic(auto, using(crate::proofs::Written::assigned_then, crate::proofs::Written::done_with, crate::proofs::Written::not_performed, layout::proofs::Numbers::label_none, layout::proofs::Numbers::label_some, whole::proofs::Ranges::handed), unfolding(rules::specs::Exec::took_reply, terms::specs::Vocabulary::Answers::surroundings))]
 pub fn took_reply(cells: &mut [i32], here: Here, line: u32, x: Variable, y: Variable) -> u32
     requires { line < 64 }
     ensures { (m : Model) (st : Standing) → st.at ≡ line → Done cells.old (Exec.took_reply m cells.old here.object.0 here.label.0 st x y) result cells.new }
@@ -74,7 +71,6 @@ pub fn took_reply(cells: &mut [i32], here: Here, line: u32, x: Variable, y: Vari
 }
 
 // "guard enabled, go on and set cleared 0"
-#[tactic(auto, using(crate::proofs::Written::onward_then), unfolding(rules::specs::Exec::crossed))]
 fn crossed(cells: &mut [i32], here: Here, line: u32) -> u32
     requires { line < 64 }
     ensures { (m : Model) (st : Standing) → st.at ≡ line → Done cells.old (Next.moved (Exec.crossed m cells.old here.object.0 here.label.0 st)) result cells.new }
@@ -84,7 +80,6 @@ fn crossed(cells: &mut [i32], here: Here, line: u32) -> u32
 }
 
 // "Otherwise stage 3, cleared 1, object idle, line kept."
-#[tactic(auto, using(crate::proofs::Written::all_written, crate::proofs::Written::call_then, crate::proofs::Written::then), unfolding(rules::specs::Exec::suspended))]
 fn suspended(cells: &mut [i32], here: Here) -> u32
     ensures { (m : Model) (st : Standing) → Done cells.old (Next.moved (Exec.suspended m cells.old here.object.0 here.label.0 st)) result cells.new }
 {
@@ -95,7 +90,7 @@ fn suspended(cells: &mut [i32], here: Here) -> u32
 }
 
 // "`await`"
-#[tactic(auto, using(crate::proofs::Written::did_not_fit, crate::proofs::Written::tested_true, crate::proofs::Written::worked_out_lem), unfolding(rules::specs::Exec::awaited, rules::specs::Next::working))]
+#[tactic(auto, using(crate::proofs::Written::tested_true), unfolding(rules::specs::Exec::awaited, rules::specs::Next::working))]
 pub fn awaited(cells: &mut [i32], here: Here, line: u32, g: Worked) -> u32
     requires { line < 64 }
     ensures { (m : Model) (st : Standing) → st.at ≡ line → Done cells.old (Next.working g (Exec.awaited m cells.old here.object.0 here.label.0 st)) result cells.new }
@@ -113,7 +108,7 @@ pub fn awaited(cells: &mut [i32], here: Here, line: u32, g: Worked) -> u32
 }
 
 // "`if` false goes to the line after its `else`", "`while` false to the line after its `od`"
-#[tactic(auto, using(crate::proofs::Written::did_not_fit, crate::proofs::Written::tested_true, crate::proofs::Written::worked_out_lem), unfolding(cells::specs::Standing::shapes_of, code::specs::Partners::goes_to, rules::specs::Exec::branched, rules::specs::Next::working))]
+#[tactic(auto, using(crate::proofs::Written::tested_true), unfolding(rules::specs::Exec::branched, rules::specs::Next::working))]
 pub fn branched(cells: &mut [i32], here: Here, line: u32, to: u32, w: Worked) -> u32
     requires line_bound { line < 64 }
     requires to_bound { to ≤ 64 }
@@ -144,7 +139,6 @@ fn stage_returned(cells: &[i32], here: Here) -> u8
 }
 
 // "`return` stores the value, frees the object"
-#[tactic(auto, using(crate::proofs::Written::all_written, crate::proofs::Written::did_not_fit, crate::proofs::Written::staged_then, crate::proofs::Written::then, crate::proofs::Written::worked_out_lem, whole::proofs::Ranges::handed), unfolding(rules::specs::Exec::returned, rules::specs::Next::working))]
 pub fn returned(cells: &mut [i32], here: Here, w: Worked) -> u32
     ensures { (m : Model) (st : Standing) → Done cells.old (Next.working w (Exec.returned m cells.old here.object.0 here.label.0 st)) result cells.new }
 {

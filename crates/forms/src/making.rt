@@ -17,7 +17,7 @@ use terms::{Here, Variable};
 use whole::{Worked, refusals};
 
 // The next object, of a class, with a running label and its attributes.
-#[tactic(auto, using(crate::proofs::MakingLaws::object_added), unfolding(layout::specs::Layout::padded, layout::specs::Layout::written, layout::specs::Stages::objects_in_use, rules::specs::Exec::with_object))]
+#[tactic(auto, using(crate::proofs::MakingLaws::object_added))]
 fn with_object(cells: &mut [i32], class: u8, label: u8, attributes: &[i32])
     requires cells_bound { Stages.objects_in_use cells.old < Layout.object_rows }
     requires attributes_len { length attributes.now ≡ Layout.most_attributes }
@@ -29,7 +29,7 @@ fn with_object(cells: &mut [i32], class: u8, label: u8, attributes: &[i32])
 }
 
 // The next label: its stage, caller, callee and method, the number of its arguments, and its locals.
-#[tactic(auto, using(crate::proofs::MakingLaws::call_added), unfolding(layout::specs::Layout::padded, layout::specs::Layout::written, layout::specs::Stages::rows_in_use, rules::specs::Exec::with_call))]
+#[tactic(auto, using(crate::proofs::MakingLaws::call_added))]
 fn with_call(cells: &mut [i32], call: NewCall, locals: &[i32])
     requires cells_bound { Stages.rows_in_use cells.old < Layout.call_rows }
     requires locals_len { length locals.now ≡ Layout.most_locals }
@@ -41,7 +41,6 @@ fn with_call(cells: &mut [i32], call: NewCall, locals: &[i32])
 }
 
 // "Where the class has run 1 it also issues the next label: caller 0, method 0, stage 4, running there."
-#[tactic(auto, using(crate::proofs::MakingLaws::padded_whole, crate::proofs::MakingLaws::rows_kept, crate::proofs::MakingLaws::running_made), unfolding(layout::specs::Layout::padded, layout::specs::Layout::written, layout::specs::Stages::objects_in_use, layout::specs::Stages::rows_in_use, rules::specs::Exec::class_runs, rules::specs::Exec::made, rules::specs::Exec::next_object, rules::specs::Exec::next_row))]
 fn with_running(cells: &mut [i32], class: u8, attributes: &[i32])
     requires cells_bound { Stages.objects_in_use cells.old < Layout.object_rows }
     requires cells_bound_2 { Stages.rows_in_use cells.old < Layout.call_rows }
@@ -64,7 +63,7 @@ fn with_running(cells: &mut [i32], class: u8, attributes: &[i32])
 }
 
 // "`new` makes the next object, arguments in its first attributes, and stores its number in X."
-#[tactic(auto, using(crate::proofs::MakingLaws::created_done, crate::proofs::MakingLaws::idle_made, crate::proofs::MakingLaws::no_call_row, crate::proofs::MakingLaws::no_object_row, crate::proofs::MakingLaws::number_after, crate::proofs::MakingLaws::number_fits, crate::proofs::MakingLaws::refused_done), unfolding(layout::specs::Layout::padded, rules::specs::Exec::class_runs, rules::specs::Exec::created, rules::specs::Exec::row_left))]
+#[tactic(auto, using(crate::proofs::MakingLaws::number_fits))]
 fn created(
     cells: &mut [i32],
     here: Here,
@@ -94,7 +93,7 @@ fn created(
 }
 
 // "`call` issues the next label: caller this object, callee the value of E, method J, arguments in v0 on, stage 1. X gets the label."
-#[tactic(auto, using(crate::proofs::MakingLaws::issued_done, crate::proofs::MakingLaws::no_callee, crate::proofs::MakingLaws::no_row, crate::proofs::MakingLaws::number_after, crate::proofs::MakingLaws::number_fits, crate::proofs::MakingLaws::object_none, crate::proofs::MakingLaws::object_some, crate::proofs::MakingLaws::refused_done), unfolding(layout::specs::Layout::padded, layout::specs::Stages::objects_in_use, rules::specs::Exec::issued))]
+#[tactic(auto, using(crate::proofs::MakingLaws::number_fits))]
 fn issued(
     cells: &mut [i32],
     here: Here,
@@ -130,7 +129,6 @@ fn issued(
 }
 
 // A `new`, once its arguments are worked out; the class runs or not.
-#[tactic(auto, using(crate::proofs::Gathered::gathered_fit, crate::proofs::Gathered::gathered_unfit, crate::proofs::MakingLaws::refused_done, crate::proofs::MakingLaws::same_done), unfolding(code::specs::Vocabulary::Answers::gathered, code::specs::Vocabulary::Answers::no_arguments, rules::specs::Exec::class_runs, rules::specs::Exec::created, rules::specs::Next::working_all))]
 pub fn creating(
     cells: &mut [i32],
     here: Here,
@@ -153,7 +151,6 @@ pub fn creating(
 }
 
 // A `call`, once its callee and its arguments are worked out.
-#[tactic(auto, using(crate::proofs::Gathered::gathered_fit, crate::proofs::Gathered::gathered_unfit, crate::proofs::MakingLaws::refused_done, crate::proofs::MakingLaws::same_done, crate::proofs::Written::did_not_fit, crate::proofs::Written::worked_out_lem), unfolding(code::specs::Vocabulary::Answers::gathered, code::specs::Vocabulary::Answers::no_arguments, layout::specs::Stages::objects_in_use, rules::specs::Exec::issued, rules::specs::Next::working, rules::specs::Next::working_all))]
 pub fn calling(
     cells: &mut [i32],
     here: Here,

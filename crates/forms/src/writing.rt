@@ -7,7 +7,7 @@ use layout::{Label, ObjectNumber, writers};
 use terms::{Here, Variable};
 
 // A value stored in a variable of a call.
-#[tactic(auto, unfolding(layout::specs::Layout::written, rules::specs::Exec::stored))]
+#[tactic(auto, unfolding(rules::specs::Exec::stored))]
 pub fn stored(cells: &mut [i32], here: Here, x: Variable, z: i32)
     ensures { cells.new ≡ Layout.written cells.old (Exec.stored cells.old here.object.0 here.label.0 x z) }
 {
@@ -23,7 +23,6 @@ pub fn stored(cells: &mut [i32], here: Here, x: Variable, z: i32)
 }
 
 // The line that a call goes to.
-#[tactic(auto, unfolding(layout::specs::Layout::to_call, layout::specs::Layout::written))]
 pub fn to_line(cells: &mut [i32], l: Label, line: u32)
     requires { line < 2 ^ 31 }
     ensures { cells.new ≡ Layout.written cells.old (Layout.to_call cells.old l.0 Layout.line (pos line)) }

@@ -1,0 +1,6 @@
+-- `forms::branched`: a value out of range refuses, and nothing is written.
+use Rattle.forms.proofs.Written.{did_not_fit}
+use Rattle.forms.proofs.branched.Goals as goal
+
+pub returns-in-OutOfRange : goal.returns-in-OutOfRange
+returns-in-OutOfRange c m st at to = did_not_fit _ _ _ c.in-OutOfRange.is
