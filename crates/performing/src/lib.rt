@@ -1,5 +1,6 @@
 // The rules in code: what a chosen rule instance writes, or the number that refuses it.
 #![tactic(auto)]
+
 ghost use Rattle.std.specs.Prelude.{true, ◌≡◌};
 ghost use Rattle.layout.specs.Stages as Stages;
 ghost use Rattle.model.specs.Vocabulary.Known as Known;
@@ -27,7 +28,7 @@ const START: i32 = 4;
 const DELIVER: i32 = 5;
 
 // A rule at a label in use, by its kind.
-#[tactic(auto, using(crate::proofs::Choosing::at_arrive, crate::proofs::Choosing::at_bind, crate::proofs::Choosing::at_deliver, crate::proofs::Choosing::at_none, crate::proofs::Choosing::at_start, crate::proofs::Choosing::callee_in_use, crate::proofs::Choosing::few_objects, crate::proofs::Choosing::kind_is, crate::proofs::Choosing::label_few, forms::proofs::MakingLaws::refused_done, forms::proofs::MakingLaws::same_done, lookup::proofs::Reading::told), unfolding(cells::specs::Configuration::is_configuration, crate::specs::Vocabulary::Parts::at_label, model::specs::Vocabulary::Known::model_of))]
+#[tactic(auto, using(crate::proofs::Choosing::at_arrive, crate::proofs::Choosing::at_bind, crate::proofs::Choosing::at_deliver, crate::proofs::Choosing::at_start, crate::proofs::Choosing::callee_in_use, crate::proofs::Choosing::few_objects, crate::proofs::Choosing::kind_is, forms::proofs::MakingLaws::same_done, lookup::proofs::Reading::told))]
 fn at_label(
     text: &[u8],
     table: &[u16],
@@ -57,7 +58,7 @@ fn at_label(
 }
 
 // "then the choice: 12, then the row's order"
-#[tactic(auto, using(crate::proofs::Choosing::exec_none, crate::proofs::Choosing::exec_some, crate::proofs::Choosing::few_objects, crate::proofs::Choosing::kind_is, crate::proofs::Choosing::label_none, crate::proofs::Choosing::label_some, crate::proofs::Choosing::label_within, forms::proofs::MakingLaws::object_none, forms::proofs::MakingLaws::object_some, forms::proofs::MakingLaws::refused_done, forms::proofs::MakingLaws::same_done, forms::proofs::Written::done_with, whole::proofs::Ranges::handed), unfolding(cells::specs::Configuration::is_configuration, model::specs::Vocabulary::Known::model_of, rules::specs::Step::next))]
+#[tactic(auto, using(crate::proofs::Choosing::few_objects))]
 pub fn next(text: &[u8], table: &[u16], shapes: &[u8], cells: &mut [i32], choice: Choice) -> u32
     requires known { Known.Known text.now table.now shapes.now }
     requires cells_value { is_configuration (Known.model_of text.now) cells.old ≡ true }

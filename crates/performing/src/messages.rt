@@ -21,7 +21,6 @@ use terms::Here;
 use whole::{Worked, refusals};
 
 // A call that goes from one stage to another, or the number that refuses it where it is not in the first.
-#[tactic(auto, using(crate::proofs::Choosing::must_failed, crate::proofs::Choosing::must_passed, forms::proofs::Written::all_written), unfolding(layout::specs::Stages::in_stage, layout::specs::Stages::staged, rules::specs::Next::must))]
 fn moved_on(cells: &mut [i32], l: Label, from: u8, to: u8, refusal: u32) -> u32
     ensures { Done cells.old (Next.must (Stages.in_stage cells.old l.0 from) refusal (Next.moved (Stages.staged cells.old l.0 to))) result cells.new }
 {
@@ -48,7 +47,6 @@ pub fn arrive(cells: &mut [i32], l: Label) -> u32
 }
 
 // "bind L (3): 2 to 3, if the callee's class has the method with as many params as args."
-#[tactic(auto, using(crate::proofs::Choosing::bound_none, crate::proofs::Choosing::bound_some, crate::proofs::Choosing::must_failed, forms::proofs::MakingLaws::refused_done, forms::proofs::MakingLaws::same_done, forms::proofs::Written::all_written), unfolding(layout::specs::Layout::of_call, layout::specs::Layout::read, layout::specs::Stages::objects_in_use, rules::specs::Messages::bind, whole::specs::Whole::between))]
 pub fn bind(table: &[u16], cells: &mut [i32], l: Label) -> u32
     requires told { Found.Told table.now }
     requires cells_bound { Stages.objects_in_use cells.old ≤ Layout.object_rows }
@@ -79,7 +77,7 @@ fn ready_at(statement: Statement) -> Worked
     }
 }
 
-#[tactic(auto, using(crate::proofs::Choosing::not_bad, crate::proofs::Choosing::ready_got, crate::proofs::Choosing::ready_nowhere, crate::proofs::Choosing::ready_there, crate::proofs::Choosing::stands_there, lookup::proofs::Reading::line_below, lookup::proofs::Reading::line_inside, lookup::proofs::Reading::some_classes, lookup::proofs::Reading::told), unfolding(layout::specs::Layout::of_call, layout::specs::Layout::read, layout::specs::Stages::objects_in_use, model::specs::Vocabulary::Known::model_of, rules::specs::Messages::ready, whole::specs::Whole::between))]
+#[tactic(auto, using(crate::proofs::Choosing::ready_nowhere, lookup::proofs::Reading::some_classes, lookup::proofs::Reading::told))]
 fn ready(text: &[u8], table: &[u16], shapes: &[u8], cells: &[i32], here: Here) -> Worked
     requires known { Known.Known text.now table.now shapes.now }
     requires cells_bound { Stages.objects_in_use cells.now ≤ Layout.object_rows }
@@ -100,7 +98,6 @@ fn ready(text: &[u8], table: &[u16], shapes: &[u8], cells: &[i32], here: Here) -
 }
 
 // The callee runs the call.
-#[tactic(auto, using(forms::proofs::Written::all_written, forms::proofs::Written::then), unfolding(rules::specs::Messages::started))]
 fn started(cells: &mut [i32], here: Here) -> u32
     requires { here.label.0 < 2 ^ 31 }
     ensures { Done cells.old (Next.moved (Messages.started cells.old here.object.0 here.label.0)) result cells.new }
@@ -116,7 +113,6 @@ fn started(cells: &mut [i32], here: Here) -> u32
 }
 
 // The callee is idle and the call ready; "start tests 29 before 25".
-#[tactic(auto, using(crate::proofs::Choosing::must_failed, crate::proofs::Choosing::must_passed, forms::proofs::Written::did_not_fit, forms::proofs::Written::tested_true, forms::proofs::Written::worked_out_lem), unfolding(crate::specs::Vocabulary::Parts::start_ready, layout::specs::Layout::of_call, layout::specs::Layout::read, layout::specs::Stages::objects_in_use, model::specs::Vocabulary::Known::model_of, whole::specs::Whole::between))]
 fn start_idle(text: &[u8], table: &[u16], shapes: &[u8], cells: &mut [i32], here: Here) -> u32
     requires known { Known.Known text.now table.now shapes.now }
     requires cells_bound { Stages.objects_in_use cells.old ≤ Layout.object_rows }
@@ -137,7 +133,7 @@ fn start_idle(text: &[u8], table: &[u16], shapes: &[u8], cells: &mut [i32], here
 }
 
 // "start L (4): 3 to 4 in an idle callee."
-#[tactic(auto, using(crate::proofs::Choosing::must_failed, crate::proofs::Choosing::must_passed, crate::proofs::Choosing::started_in, forms::proofs::MakingLaws::same_done, lookup::proofs::Saying::object_is, lookup::proofs::Saying::object_missed, whole::proofs::Ranges::handed), unfolding(crate::specs::Vocabulary::Parts::start_ready, layout::specs::Layout::of_call, layout::specs::Layout::read, layout::specs::Stages::objects_in_use, model::specs::Vocabulary::Known::model_of, rules::specs::Messages::start, whole::specs::Whole::between))]
+#[tactic(auto, using(lookup::proofs::Saying::object_missed, whole::proofs::Ranges::handed))]
 pub fn start(text: &[u8], table: &[u16], shapes: &[u8], cells: &mut [i32], l: Label) -> u32
     requires known { Known.Known text.now table.now shapes.now }
     requires cells_bound { Stages.objects_in_use cells.old ≤ Layout.object_rows }

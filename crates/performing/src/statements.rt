@@ -24,7 +24,7 @@ use terms::Here;
 use whole::refusals;
 
 // A line performed, its values worked out.
-#[tactic(auto, using(crate::proofs::Spoken::did, lookup::proofs::Reading::goes_few), unfolding(code::specs::Vocabulary::Answers::arguments_of, code::specs::Vocabulary::Answers::as_statement, crate::proofs::Spoken::does, crate::specs::Vocabulary::Parts::Small, layout::specs::Stages::objects_in_use, rules::specs::Exec::performed))]
+#[tactic(auto, using(lookup::proofs::Reading::goes_few), unfolding(crate::specs::Vocabulary::Parts::Small))]
 fn performed(
     table: &[u16],
     shapes: &[u8],
@@ -70,7 +70,7 @@ fn performed(
 }
 
 // The statement at the line of the object's running call.
-#[tactic(auto, using(cells::proofs::Configured::configured, crate::proofs::Choosing::callee_in_use, crate::proofs::Choosing::few_objects, crate::proofs::Choosing::label_within, crate::proofs::Spoken::exec_idle, crate::proofs::Spoken::exec_past, crate::proofs::Spoken::exec_performs, crate::proofs::Spoken::small, forms::proofs::MakingLaws::refused_done, forms::proofs::MakingLaws::same_done, layout::proofs::Numbers::label_none, layout::proofs::Numbers::label_some, lookup::proofs::Reading::few_classes, lookup::proofs::Reading::line_below, lookup::proofs::Reading::line_inside, lookup::proofs::Reading::line_shapes, lookup::proofs::Reading::line_small, lookup::proofs::Reading::lined, lookup::proofs::Reading::some_classes, lookup::proofs::Reading::told, whole::proofs::Ranges::handed), unfolding(cells::specs::Configuration::is_configuration, lookup::specs::Vocabulary::Found::StandingSaid, model::specs::Vocabulary::Known::model_of, rules::specs::Exec::exec))]
+#[tactic(auto, using(cells::proofs::Configured::configured, crate::proofs::Choosing::callee_in_use, crate::proofs::Choosing::few_objects, crate::proofs::Choosing::label_within, layout::proofs::Numbers::label_some, lookup::proofs::Reading::line_below, lookup::proofs::Reading::line_inside, lookup::proofs::Reading::some_classes, lookup::proofs::Reading::told, whole::proofs::Ranges::handed), unfolding(lookup::specs::Vocabulary::Found::StandingSaid))]
 pub fn exec(text: &[u8], table: &[u16], shapes: &[u8], cells: &mut [i32], o: ObjectNumber) -> u32
     requires known { Known.Known text.now table.now shapes.now }
     requires cells_value { is_configuration (Known.model_of text.now) cells.old ≡ true }
