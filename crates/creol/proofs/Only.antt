@@ -1,5 +1,5 @@
--- No second result fits: what an entry's own contract says, as it is read from the function, leaves one answer and one list of cells. `creol_run` is
--- proved by a walk and has no generated reading: its theorem is over the clauses themselves, in every model of the logic. Assumes nothing.
+-- No second result fits: what an entry's own contract says, as it is read from the function, leaves one answer and one list of cells. The theorem of
+-- `creol_run` is over the clauses themselves, in every model of the logic. Assumes nothing.
 use mathlib.Core.Path.{◌≡◌, sym, ◌∙◌}
 use seplogic.Ra.Ura.{Ura}
 use base.Logic.{SProp, ent, via}

@@ -1,6 +1,7 @@
 // The entries for programs in C and Rust. Each answer is one number:
 // number + 2^8 * column + 2^16 * line + 2^32 * steps + 2^48 * quiet
 #![tactic(auto)]
+
 ghost use Rattle.std.specs.Prelude.{◌≡◌, ◌≤◌};
 ghost use Rattle.model.specs.Judge as Judge;
 ghost use Rattle.engine.specs.Drive.{most_steps};
@@ -23,7 +24,6 @@ fn packed(verdict: Verdict) -> u64
 
 // The verdict on a text.
 #[unsafe(no_mangle)]
-#[tactic(auto, unfolding(crate::specs::Vocabulary::Packed::packed, model::specs::Judge::judge))]
 pub extern "C" fn creol_judge(text: &[u8]) -> u64
     ensures { result ≡ Packed.packed (Judge.judge text.now) }
 {
@@ -32,7 +32,6 @@ pub extern "C" fn creol_judge(text: &[u8]) -> u64
 
 // Start: the first configuration of a text, written over whatever the cells held.
 #[unsafe(no_mangle)]
-#[tactic(auto, unfolding(crate::specs::Vocabulary::Packed::packed, engine::specs::Entries::start))]
 pub extern "C" fn creol_start(text: &[u8], cells: &mut [i32]) -> u64
     ensures value { result ≡ Packed.packed (Entries.start text.now cells.old).verdict }
     ensures cells_after { cells.new ≡ (Entries.start text.now cells.old).cells }
@@ -42,7 +41,6 @@ pub extern "C" fn creol_start(text: &[u8], cells: &mut [i32]) -> u64
 
 // Step: one choice, a kind with its number.
 #[unsafe(no_mangle)]
-#[tactic(auto, unfolding(crate::specs::Vocabulary::Packed::packed, engine::specs::Entries::step))]
 pub extern "C" fn creol_step(text: &[u8], cells: &mut [i32], kind: i32, number: i32) -> u64
     ensures value { result ≡ Packed.packed (Entries.step text.now cells.old (record { kind = kind; number = number })).verdict }
     ensures cells_after { cells.new ≡ (Entries.step text.now cells.old (record { kind = kind; number = number })).cells }
@@ -52,7 +50,6 @@ pub extern "C" fn creol_step(text: &[u8], cells: &mut [i32], kind: i32, number: 
 
 // Run: a list of choices, each a kind with its number, and an answer to each in its own place.
 #[unsafe(no_mangle)]
-#[tactic(auto, unfolding(crate::specs::Vocabulary::Packed::packed, engine::specs::Entries::run))]
 pub extern "C" fn creol_run(
     text: &[u8],
     cells: &mut [i32],
@@ -85,7 +82,7 @@ fn packed_drive(drove: Drove) -> u64
 
 // Drive: first accepted choices up to a budget, in the document's order.
 #[unsafe(no_mangle)]
-#[tactic(auto, using(entries::proofs::AnswerBounds::drive_small), unfolding(engine::specs::Entries::drive))]
+#[tactic(auto, using(entries::proofs::AnswerBounds::drive_small))]
 pub extern "C" fn creol_drive(text: &[u8], cells: &mut [i32], budget: u32) -> u64
     ensures value { result ≡ Packed.packed_outcome (Entries.drive text.now cells.old budget) }
     ensures cells_after { cells.new ≡ (Entries.drive text.now cells.old budget).cells }

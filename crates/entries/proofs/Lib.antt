@@ -1,9 +1,7 @@
 -- What is proved of the entries beyond their contracts.
-mod Again
 pub mod AnswerBounds
 mod Drives
 mod Freshly
-mod Lending
 pub mod Only
 pub mod OnlyDrive
 pub mod OnlyRun
@@ -12,4 +10,4 @@ mod Refusing
 pub mod RunOnward
 mod RunOutcomes
 mod Searching
-mod Walking
+mod Turns

@@ -1,5 +1,5 @@
--- No second result fits run: what its own contract says leaves one verdict, one list of cells and one of answers. `run` is proved by a walk, so
--- there is no generated reading of its contract, and the theorem is over the clauses themselves, in every model of the logic. Assumes nothing.
+-- No second result fits run: what its own contract says leaves one verdict, one list of cells and one of answers. The theorem is over the clauses
+-- themselves, in every model of the logic. Assumes nothing.
 use mathlib.Core.Path.{◌≡◌, sym, ◌∙◌}
 use seplogic.Ra.Ura.{Ura}
 use base.Logic.{SProp, ent, sep, via, fst∗, snd∗}

@@ -28,7 +28,7 @@ pub struct Drove {
 }
 
 // How many a kind has to choose from: exec the objects in use, the others the labels.
-#[tactic(auto, using(crate::proofs::Searching::count_exec, crate::proofs::Searching::count_other), unfolding(crate::specs::Vocabulary::Searched::count_of, layout::specs::Stages::objects_in_use, layout::specs::Stages::rows_in_use))]
+#[tactic(auto, using(crate::proofs::Searching::count_exec, crate::proofs::Searching::count_other))]
 fn in_use(cells: &[i32], kind: u8) -> usize
     requires cells_bound { Stages.objects_in_use cells.now ≤ Layout.object_rows }
     requires cells_bound_2 { Stages.rows_in_use cells.now ≤ Layout.call_rows }
@@ -43,7 +43,7 @@ fn in_use(cells: &[i32], kind: u8) -> usize
 }
 
 // The first accepted choice of a kind, from 1 to a number, is performed; none, and nothing is written.
-#[tactic(auto, using(crate::proofs::Searching::of_moved, crate::proofs::Searching::of_none, crate::proofs::Searching::of_refused, crate::proofs::Searching::same_performed), unfolding(cells::specs::Configuration::is_configuration, crate::specs::Vocabulary::Searched::choices_from, model::specs::Vocabulary::Known::model_of))]
+#[tactic(auto, using(crate::proofs::Searching::of_moved, crate::proofs::Searching::of_none))]
 fn first_of(
     text: &[u8],
     table: &[u16],
@@ -72,7 +72,7 @@ fn first_of(
 }
 
 // The first accepted choice in an order of the kinds is performed.
-#[tactic(auto, using(crate::proofs::Searching::few_calls, crate::proofs::Searching::few_objects, crate::proofs::Searching::in_found, crate::proofs::Searching::in_none, crate::proofs::Searching::in_passed), unfolding(cells::specs::Configuration::is_configuration, crate::specs::Vocabulary::Searched::kinds_of, engine::specs::Drive::choices_in, model::specs::Vocabulary::Known::model_of))]
+#[tactic(auto, using(crate::proofs::Searching::few_calls, crate::proofs::Searching::few_objects, crate::proofs::Searching::in_found, crate::proofs::Searching::in_none, crate::proofs::Searching::in_passed))]
 fn first_in(text: &[u8], table: &[u16], shapes: &[u8], cells: &mut [i32], order: &[u8]) -> bool
     requires known { Known.Known text.now table.now shapes.now }
     requires cells_value { is_configuration (Known.model_of text.now) cells.old ≡ true }
@@ -91,7 +91,7 @@ fn first_in(text: &[u8], table: &[u16], shapes: &[u8], cells: &mut [i32], order:
 }
 
 // Accepted steps up to a budget: how many were taken. "It ends at the budget or when none is accepted."
-#[tactic(auto, using(crate::proofs::Searching::found_keeps, crate::proofs::Searching::led_false, crate::proofs::Searching::led_true, crate::proofs::Searching::steps_done, crate::proofs::Searching::steps_end, crate::proofs::Searching::steps_onward, lookup::proofs::Reading::accepted), unfolding(cells::specs::Configuration::is_configuration, crate::specs::Vocabulary::Searched::kinds_of, engine::specs::Drive::driven, model::specs::Vocabulary::Known::model_of))]
+#[tactic(auto, using(crate::proofs::Searching::found_keeps, crate::proofs::Searching::led_false, crate::proofs::Searching::led_true, crate::proofs::Searching::steps_done, crate::proofs::Searching::steps_onward, lookup::proofs::Reading::accepted))]
 fn steps(
     text: &[u8],
     table: &[u16],
@@ -129,7 +129,7 @@ fn copied(cells: &[i32], copy: &mut [i32])
 }
 
 // "quiet: yes exactly when no choice is accepted": asked of a copy of the cells.
-#[tactic(auto, using(crate::proofs::Searching::all_numbers, crate::proofs::Searching::all_there, crate::proofs::Searching::quiet_led), unfolding(cells::specs::Configuration::is_configuration, engine::specs::Drive::is_quiet, model::specs::Vocabulary::Known::model_of))]
+#[tactic(auto, using(crate::proofs::Searching::all_numbers, crate::proofs::Searching::all_there, crate::proofs::Searching::quiet_led))]
 fn is_quiet(text: &[u8], table: &[u16], shapes: &[u8], cells: &[i32]) -> bool
     requires known { Known.Known text.now table.now shapes.now }
     requires cells_value { is_configuration (Known.model_of text.now) cells.now ≡ true }
@@ -142,7 +142,7 @@ fn is_quiet(text: &[u8], table: &[u16], shapes: &[u8], cells: &[i32]) -> bool
 }
 
 // Drive in an order of the kinds: 14 before anything is written, and quiet told of the cells at the end.
-#[tactic(auto, using(crate::proofs::Drives::drive_done, crate::proofs::Drives::drive_over, crate::proofs::Drives::drive_refused), unfolding(crate::specs::Vocabulary::Searched::kinds_of, engine::specs::Entries::at_no_line, engine::specs::Entries::drive_in))]
+#[tactic(auto, using(crate::proofs::Drives::drive_done, crate::proofs::Drives::drive_over, crate::proofs::Drives::drive_refused), unfolding(engine::specs::Entries::at_no_line))]
 fn drive_in(text: &[u8], cells: &mut [i32], order: &[u8], budget: u32) -> Drove
     ensures verdict_value { result.verdict ≡ (Entries.drive_in (Searched.kinds_of order.now) text.now cells.old budget).verdict }
     ensures steps_value { result.steps ≡ (Entries.drive_in (Searched.kinds_of order.now) text.now cells.old budget).steps }
@@ -180,7 +180,7 @@ fn drive_in(text: &[u8], cells: &mut [i32], order: &[u8], budget: u32) -> Drove
 }
 
 // Drive in the document's order: "exec 1.., arrive 1.., bind 1.., start 1.., deliver 1..."
-#[tactic(auto, using(crate::proofs::Drives::in_order_lem, crate::proofs::Searching::all_numbers), unfolding(engine::specs::Entries::drive))]
+#[tactic(auto, using(crate::proofs::Drives::in_order_lem, crate::proofs::Searching::all_numbers), unfolding(crate::specs::Vocabulary::Searched::kinds_of, engine::specs::Entries::drive))]
 pub fn drive(text: &[u8], cells: &mut [i32], budget: u32) -> Drove
     ensures verdict_value { result.verdict ≡ (Entries.drive text.now cells.old budget).verdict }
     ensures steps_value { result.steps ≡ (Entries.drive text.now cells.old budget).steps }

@@ -1,5 +1,6 @@
 // The entries start, step, run and drive: the text judged first, then 10, then (start excepted) 11, then 13 or 14, then the choice.
 #![tactic(auto)]
+
 ghost use Rattle.std.specs.Prelude.{◌≡◌, pos, length, replicate};
 ghost use Rattle.whole.specs.Refusals as Refusals;
 ghost use Rattle.layout.specs.Layout as Layout;
@@ -34,7 +35,6 @@ fn clear(cells: &mut [i32])
 }
 
 // "Start writes: one object of class 0, attributes 0, running label 1; call 1 with caller 0, callee 1, method 0, stage 4, the rest 0."
-#[tactic(auto, using(crate::proofs::Freshly::fresh_written), unfolding(cells::specs::Fresh::fresh))]
 fn write_fresh(cells: &mut [i32])
     requires { length cells.old ≡ Layout.all_cells }
     ensures { cells.new ≡ fresh }
@@ -93,7 +93,7 @@ fn on_configuration(text: &[u8], table: &mut [u16], shapes: &mut [u8], cells: &[
 }
 
 // Start, with the table and the shapes in memory that is lent: of an accepted text they serve the steps after it.
-#[tactic(auto, using(crate::proofs::Outcomes::start_accepted, crate::proofs::Outcomes::start_refused), unfolding(engine::specs::Entries::start))]
+#[tactic(auto, using(crate::proofs::Outcomes::start_accepted, crate::proofs::Outcomes::start_refused))]
 pub fn start_in(text: &[u8], table: &mut [u16], shapes: &mut [u8], cells: &mut [i32]) -> Verdict
     requires { Table.Sized table.old shapes.old }
     ensures value { result ≡ (Entries.start text.now cells.old).verdict }
@@ -118,7 +118,7 @@ pub fn start(text: &[u8], cells: &mut [i32]) -> Verdict
 }
 
 // Step: one choice, whose answer is the entry's own.
-#[tactic(auto, using(crate::proofs::Outcomes::step_done, crate::proofs::Outcomes::step_refused), unfolding(engine::specs::Entries::at_no_line, engine::specs::Entries::step))]
+#[tactic(auto, using(crate::proofs::Outcomes::step_refused))]
 pub fn step(text: &[u8], cells: &mut [i32], choice: Choice) -> Verdict
     ensures value { result ≡ (Entries.step text.now cells.old choice).verdict }
     ensures cells_after { cells.new ≡ (Entries.step text.now cells.old choice).cells }

@@ -16,7 +16,7 @@ use text::Verdict;
 use whole::refusals;
 
 // One choice of a run: one step, with its answer in its own place.
-#[tactic(auto, using(crate::proofs::Refusing::answer_small), unfolding(cells::specs::Configuration::is_configuration, model::specs::Vocabulary::Known::model_of, rules::specs::Next::answer_of, rules::specs::Next::cells_after, rules::specs::Step::next))]
+#[tactic(auto, using(crate::proofs::Refusing::answer_small))]
 pub fn perform(
     text: &[u8],
     table: &[u16],
@@ -36,7 +36,7 @@ pub fn perform(
 }
 
 // Each choice is one step.
-#[tactic(auto, using(crate::proofs::Again::LentAgain, crate::proofs::Again::comes_back, crate::proofs::Again::lends_again, crate::proofs::RunOnward::ran_none, lookup::proofs::Reading::accepted), unfolding(cells::specs::Configuration::is_configuration, engine::specs::Run::run_answers, engine::specs::Run::run_cells, model::specs::Vocabulary::Known::model_of))]
+#[tactic(auto, using(crate::proofs::Turns::at_first))]
 fn run_choices(
     text: &[u8],
     table: &[u16],
@@ -85,7 +85,7 @@ fn on_run(
 }
 
 // Run: 13 before anything is written.
-#[tactic(auto, using(crate::proofs::Lending::Kept, crate::proofs::Lending::Lies, crate::proofs::Lending::Owed, crate::proofs::Lending::Shared, crate::proofs::Lending::array_fits, crate::proofs::Lending::comes_back, crate::proofs::Lending::lends, crate::proofs::Lending::lent, crate::proofs::Lending::lets_go, crate::proofs::Lending::lft, crate::proofs::Lending::made, crate::proofs::Lending::refers, crate::proofs::Lending::reshared, crate::proofs::Lending::reshared_back, crate::proofs::Lending::reshares, crate::proofs::Lending::shared, crate::proofs::Lending::shared_back, crate::proofs::Lending::shares_out, crate::proofs::Lending::vacated, crate::proofs::RunOutcomes::run_done, crate::proofs::RunOutcomes::run_refused, crate::proofs::Walking::AtBlocks, crate::proofs::Walking::allocates, crate::proofs::Walking::constant, crate::proofs::Walking::empty, crate::proofs::Walking::frees_all, crate::proofs::Walking::told, crate::proofs::Walking::turn, crate::proofs::Walking::updates, crate::proofs::Walking::value), unfolding(engine::specs::Entries::run))]
+#[tactic(auto, using(crate::proofs::RunOutcomes::run_refused))]
 pub fn run(text: &[u8], cells: &mut [i32], choices: &[Choice], answers: &mut [i32]) -> Verdict
     ensures value { result ≡ (Entries.run text.now cells.old choices.now answers.old).verdict }
     ensures cells_after { cells.new ≡ (Entries.run text.now cells.old choices.now answers.old).cells }
