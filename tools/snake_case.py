@@ -17,7 +17,7 @@ import sys
 
 TOKEN = re.compile(r"[^\s()\[\]{};,.λ]+")
 DECLARED = re.compile(
-    r"^\s{0,6}((?:abbrev |unfoldable |opaque )?(?:pub )?(?:abbrev |unfoldable |opaque )?)([^\s():;{}\[\],.λ=]+)((?: [^:=]*)?) : "
+    r"^\s{0,12}((?:abbrev |unfoldable |opaque )?(?:pub )?(?:abbrev |unfoldable |opaque )?)([^\s():;{}\[\],.λ=]+)((?: [^:=]*)?) : "
 )
 RULESET = re.compile(r"^\s*(?:pub )?ruleset ([^\s=]+)")
 USE = re.compile(r"^\s*(?:ghost |pub )*use ([^\s{;]+?)(?:\.\{([^}]*)\})?(?: as (\S+?))?;?\s*$", re.M)

@@ -105,9 +105,9 @@ module _ (ls : List Shape) (i : ℕ) where
       onward_goes m k e = go onward_meets.0 onward_meets.1 onward_meets.2
         where
           -- it closes nothing, or a block that was opened since
-          no-partner : (ds : List Block) (o : Option Block) → closing (get_or ls j Shape.Plain) ≡ o → s.inner ≡ with o ds → partners ls i j ≡ false
-          no-partner ds none c w = partners_unfit ls i j (fits_close _ _ s.block s.opens c)
-          no-partner ds (some b) c w =
+          no_partner : (ds : List Block) (o : Option Block) → closing (get_or ls j Shape.Plain) ≡ o → s.inner ≡ with o ds → partners ls i j ≡ false
+          no_partner ds none c w = partners_unfit ls i j (fits_close _ _ s.block s.opens c)
+          no_partner ds (some b) c w =
               partners_open ls i j (balanced_no _ b ds (ap (λ l. through_all l []) (between_span ls i j) ∙ s.passed ∙ ap some (unfold with in w)))
 
           go : (mid : List Block) → Meets (closing (get_or ls j Shape.Plain)) (opening (get_or ls j Shape.Plain)) s.block s.outer s.inner mid
@@ -136,7 +136,7 @@ module _ (ls : List Shape) (i : ℕ) where
                 search =
                     s.search
                     ∙ ap (λ t. first_from (partners ls i) t j) more_left
-                    ∙ first_no (partners ls i) _ j (no-partner ds (closing l) refl with-inner);
+                    ∙ first_no (partners ls i) _ j (no_partner ds (closing l) refl with-inner);
               }
 
 -- the search back from line i, above line j, with the count n: its mirror, where what a line opens is left
@@ -211,9 +211,9 @@ module _ (ls : List Shape) (i : ℕ) where
     backward_goes m e = go backward_meets.0 backward_meets.1 backward_meets.2
       where
         -- it opens nothing, or a block that is closed before line i
-        no-partner : (ds : List Block) (o : Option Block) → opening (get_or ls j Shape.Plain) ≡ o → s.inner ≡ with o ds → partners ls j i ≡ false
-        no-partner ds none c w = partners_unfit ls j i (fits_open _ _ c)
-        no-partner ds (some b) c w =
+        no_partner : (ds : List Block) (o : Option Block) → opening (get_or ls j Shape.Plain) ≡ o → s.inner ≡ with o ds → partners ls j i ≡ false
+        no_partner ds none c w = partners_unfit ls j i (fits_open _ _ c)
+        no_partner ds (some b) c w =
             let v : s.inner ≡ b ∷ ds = unfold with in w in
             let p = ap (λ l. through_all l (b ∷ ds)) (between_span ls j i) ∙ ap (through_all (span (suc j) i ls)) (sym v) ∙ s.passed in
             partners_open ls j i (not_balanced _ b ds p)
@@ -237,5 +237,5 @@ module _ (ls : List Shape) (i : ℕ) where
               rest =
                   rest ∙ ap some (ap (with (closing l)) is-mid ∙ sym (with_append (closing l) ds (s.block ∷ s.outer)));
               search =
-                  s.search ∙ last_no (λ k. partners ls k i) j (no-partner ds (opening l) refl with-inner);
+                  s.search ∙ last_no (λ k. partners ls k i) j (no_partner ds (opening l) refl with-inner);
             }

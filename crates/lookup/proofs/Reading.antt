@@ -189,13 +189,13 @@ module _ (s : Text) (t : Table) (x : List ℕ) (k : Known s t x) where
 
       -- what the code finds there
       module _ (r : ReadCode) (e : r ≡ statement_read c (around h d.body) (classes_in t) (value_in s (row_at t (code_row (d.body.first + d.line))))) where
-        pub line-said : r.read ≡ Read.Got (as_statement (worked_out (here c h.object.0 h.label.0) is.statement))
+        pub line_said : r.read ≡ Read.Got (as_statement (worked_out (here c h.object.0 h.label.0) is.statement))
         unfolding as_code
-        line-said = ap (λ (x : ReadCode). x.read) (e ∙ line_read)
+        line_said = ap (λ (x : ReadCode). x.read) (e ∙ line_read)
 
-        pub line-beside : r.arguments ≡ arguments_of (worked_out (here c h.object.0 h.label.0) is.statement)
+        pub line_beside : r.arguments ≡ arguments_of (worked_out (here c h.object.0 h.label.0) is.statement)
         unfolding as_code
-        line-beside = ap (λ (x : ReadCode). x.arguments) (e ∙ line_read)
+        line_beside = ap (λ (x : ReadCode). x.arguments) (e ∙ line_read)
 
     -- the numbers of it, worked out
     module _ (e : Surroundings) where

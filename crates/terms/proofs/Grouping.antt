@@ -15,7 +15,7 @@ use Rattle.terms.specs.Bytes.{Text, byte_at}
 use Rattle.terms.specs.Parsed.{Parsed, got, bad, next, repeated, joining, series}
 use Rattle.terms.proofs.Following.{next_of_got, next_of_bad}
 use Rattle.terms.proofs.Moving.{Moves}
-use Rattle.terms.proofs.Series.{operator_within, joined_stop, joined-go, joined-fail, counted_go, counted_fail}
+use Rattle.terms.proofs.Series.{operator_within, joined_stop, joined_go, joined_fail, counted_go, counted_fail}
 
 -- an operator after which no other is looked for
 pub no_other_lem : (by : OperatorFound) (x : Option Operator) (o : Operator) → no_other by x ≡ some o → x ≡ some o
@@ -74,8 +74,8 @@ module _ (operator : ℕ → Option Operator) (s : Text) (item : ℕ → Parsed 
     onward_go o g m z h =
         onward_got by a at p b w e f (length s)
         ∙ again (length s) (length s) p o w
-        (λ q c i. joined-go operator applied s item p w o g q m z h c i)
-        (λ q i. joined-fail operator applied s item p w o g q m z h i)
+        (λ q c i. joined_go operator applied s item p w o g q m z h c i)
+        (λ q i. joined_fail operator applied s item p w o g q m z h i)
 
     once : (o : Operator) → operator (byte_at s p) ≡ some o → onward 1 by a at ≡ onward 0 (Is o) w (p + 1)
     once o g =

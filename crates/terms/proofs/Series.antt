@@ -58,13 +58,13 @@ module _ {O A B : Type 0} (operator : ℕ → Option O) (apply : O → B → A �
 
       -- as many as there are
       module _ (m : Moves item) (z : operator 0 ≡ none) (h : at < length s) where
-        pub joined-go : (b : A) → item (at + 1) ≡ got p b
+        pub joined_go : (b : A) → item (at + 1) ≡ got p b
             → repeated (joining operator apply s item) (length s) at a ≡ repeated (joining operator apply s item) (length s) p (apply o a b)
-        joined-go b f =
+        joined_go b f =
             repeated_goes _ (joining_moves operator apply s item m) (length s) (joining_stops operator apply s item m z) at p a _ h (step_got b f)
 
-        pub joined-fail : item (at + 1) ≡ bad p → repeated (joining operator apply s item) (length s) at a ≡ bad p
-        joined-fail f =
+        pub joined_fail : item (at + 1) ≡ bad p → repeated (joining operator apply s item) (length s) at a ≡ bad p
+        joined_fail f =
             repeated_fails _ (joining_moves operator apply s item m) (length s) (joining_stops operator apply s item m z) at p a h (step_bad f)
 
 -- what the code answers for a first item: it is refused, or the reading goes on behind it
@@ -93,7 +93,7 @@ module _ {O : Type 0} {operator : ℕ → Option O} {apply : O → Worked → Wo
   module _ (m : Moves item) (z : operator 0 ≡ none) {o : O} (g : operator (byte_at s at) ≡ some o) {p : ℕ} where
     pub joins_fail : item (at + 1) ≡ bad p → Value.Bad p ≡ as_value whole
     unfolding as_value
-    joins_fail e = sym (ap as_value (i.rest ∙ joined-fail operator apply s item at a o g p m z (operator_within operator z s at o g) e))
+    joins_fail e = sym (ap as_value (i.rest ∙ joined_fail operator apply s item at a o g p m z (operator_within operator z s at o g) e))
 
     module _ {b : Worked} (e : item (at + 1) ≡ got p b) where
       pub joins_nearer : length s - p < length s - at
@@ -108,6 +108,6 @@ module _ {O : Type 0} {operator : ℕ → Option O} {apply : O → Worked → Wo
             later = omega (arith, i.later);
             rest =
                 i.rest
-                ∙ joined-go operator apply s item at a o g p m z (operator_within operator z s at o g) b e
+                ∙ joined_go operator apply s item at a o g p m z (operator_within operator z s at o g) b e
                 ∙ ap (repeated (joining operator apply s item) (length s) p) (sym f);
           }

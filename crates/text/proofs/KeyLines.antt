@@ -143,9 +143,9 @@ module _ {A : Type 0} (s key : Text) (p : At) (value : ℕ → Text → Taken A)
         by_part : word key line 0 ≡ got (v - p.place) tt
         by_part = let m : v ≡ p.place + (v - p.place) = omega (arith, word_on key s p.place v f) in unshifted p.place _ _ tt (sym by_line ∙ f ∙ ap (λ i. got i tt) m)
 
-        pub value-inside : (p.place ≤ v) × (v ≤ e) × (e < length s) × (e ≤ p.place + longest_line)
+        pub value_inside : (p.place ≤ v) × (v ≤ e) × (e < length s) × (e ≤ p.place + longest_line)
         unfolding sound
-        value-inside =
+        value_inside =
             let n = part_length s p.place e line_feed l.from l.within l.fed in
             let m = word_on key s p.place v f in
             let k = word_within key line 0 (v - p.place) plain (omega arith) by_part in
@@ -157,7 +157,7 @@ module _ {A : Type 0} (s key : Text) (p : At) (value : ℕ → Text → Taken A)
         value_taken =
             ap (key_line key value p.line) l.cut
             ∙ first_right key value p.line _ _ l.plain (v - p.place) tt by_part
-            ∙ ap (λ c. passed (value p.line c) p.line (lines (drop (e + 1) s))) (value_part s p.place v e value-inside.0 value-inside.1)
+            ∙ ap (λ c. passed (value p.line c) p.line (lines (drop (e + 1) s))) (value_part s p.place v e value_inside.0 value_inside.1)
 
     -- another key
     pub key_missed : (q : ℕ) → word key s p.place ≡ bad q → x ≡ failed (fault s wrong_key p)
@@ -179,17 +179,17 @@ module _ {A : Type 0} (s key : Text) (p : At) (value : ℕ → Text → Taken A)
         abbrev l : SoundLine s p.place e
         l = sound_found s p.place e told.1
 
-        pub value-stands : (p.place ≤ v) × (v ≤ e) × (e < length s) × (e ≤ p.place + longest_line)
-        value-stands = value-inside e l v told.0
+        pub value_stands : (p.place ≤ v) × (v ≤ e) × (e < length s) × (e ≤ p.place + longest_line)
+        value_stands = value_inside e l v told.0
 
-        pub value-refused : (n : ℕ) → value p.line (take (e - v) (drop v s)) ≡ wrong n → x ≡ failed (fault s n p)
+        pub value_refused : (n : ℕ) → value p.line (take (e - v) (drop v s)) ≡ wrong n → x ≡ failed (fault s n p)
         unfolding passed
-        value-refused n g = value_taken e l v told.0 ∙ ap (λ y. passed y p.line (lines (drop (e + 1) s))) g ∙ sym (ap failed (fault_sound s n p e l))
+        value_refused n g = value_taken e l v told.0 ∙ ap (λ y. passed y p.line (lines (drop (e + 1) s))) g ∙ sym (ap failed (fault_sound s n p e l))
 
         pub value_read : (a : A) → value p.line (take (e - v) (drop v s)) ≡ right a → x ≡ after a (p.line + 1) (lines (drop (e + 1) s))
         unfolding passed
         value_read a g = value_taken e l v told.0 ∙ ap (λ y. passed y p.line (lines (drop (e + 1) s))) g
 
         -- where the next line begins
-        pub value-placed : Placed s p → Placed s (record { place = e + 1; line = p.line + 1 })
-        value-placed h = (omega (arith, l.within), omega (arith, h, l.from), h.2)
+        pub value_placed : Placed s p → Placed s (record { place = e + 1; line = p.line + 1 })
+        value_placed h = (omega (arith, l.within), omega (arith, h, l.from), h.2)

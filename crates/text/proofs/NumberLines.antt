@@ -27,7 +27,7 @@ use Rattle.text.specs.Lines.{lines, line_feed, longest_line, plain_byte, plain_b
 use Rattle.text.specs.Numbers.{number_in}
 use Rattle.text.specs.Vocabulary.KeyLines.{fed_number}
 use Rattle.text.specs.Vocabulary.Readings.{read_at, fault}
-use Rattle.text.proofs.KeyLines.{word_front, refused_as, value-inside, value_taken}
+use Rattle.text.proofs.KeyLines.{word_front, refused_as, value_inside, value_taken}
 use Rattle.text.proofs.NumbersIn.{number_within, number_is}
 use Rattle.text.proofs.Plain.{plain_from, plain_first, plain_past, plain_start}
 use Rattle.text.proofs.SoundEnds.{SoundLine, sound_found, end_from_plain, end_here}
@@ -173,7 +173,7 @@ module _ (key s : Text) (low most : ℕ) (p : At) (plain : plain_bytes key ≡ t
   number_stands : (e : ℕ) → SoundLine s p.place e → (n : ℕ) → number_in low most (take (e - v) (drop v s)) ≡ some n → (fed_number low most s v ≡ got e n) × (e ≤ p.place + longest_line)
   unfolding shifted
   number_stands e l n f =
-      let h = value-inside {A = ℕ} s key p (λ _ _. wrong 0) plain e l v keyed in
+      let h = value_inside {A = ℕ} s key p (λ _ _. wrong 0) plain e l v keyed in
       let number = number_is low most (take (e - v) (drop v s)) n f in
       let m : v + length (take (e - v) (drop v s)) ≡ e = omega (arith, part_length s v e line_feed h.1 l.within l.fed, h) in
       let d : decimal most s v ≡ got e n = decimal_part s v e line_feed h.1 l.within l.fed no_digit most ∙ ap (shifted v) number.0 ∙ ap (λ i. got i n) m in
