@@ -9,7 +9,7 @@ fn root() -> PathBuf {
 }
 
 fn is_part_of_a_name(c: char) -> bool {
-    c.is_alphanumeric() || "_-'>=".contains(c)
+    c.is_alphanumeric() || "_-'>=◌".contains(c)
 }
 
 /// The crates' files that a text names, as `layout/specs/Layout.antt`.
