@@ -24,7 +24,7 @@ use whole::refusals;
 const TOO_DEEP: u32 = 65536;
 
 // "A method's last line is a `return` outside all blocks." Any other leaves at most eight blocks open.
-#[tactic(auto, using(crate::proofs::CodeValues::last_other, crate::proofs::CodeValues::last_return))]
+#[tactic(auto, using(crate::proofs::CodeValues::last_other, crate::proofs::CodeValues::last_return, crate::proofs::CodeValues::not_last))]
 fn may_stand(last: bool, shape: Shape, blocks: u32) -> bool
     ensures { (c : Code) (bs : List Block) → shape ≡ shape_of c → blocks ≡ packed_blocks bs → result ≡ ModelText.may_stand last c bs }
 {

@@ -152,9 +152,9 @@ module _ {A : Type 0} (s key : Text) (p : At) (value : ℕ → Text → Taken A)
             let h : length line ≤ longest_line = leb-true _ _ (both_left _ (plain_bytes line) l.plain) in
             (omega arith, omega (arith, l.from), l.within, omega arith)
 
-        pub value_taken : x ≡ passed (value p.line (take (e - v) (drop v s))) p.line (lines (drop (e + 1) s))
+        pub value_taken_lem : x ≡ passed (value p.line (take (e - v) (drop v s))) p.line (lines (drop (e + 1) s))
         unfolding content
-        value_taken =
+        value_taken_lem =
             ap (key_line key value p.line) l.cut
             ∙ first_right key value p.line _ _ l.plain (v - p.place) tt by_part
             ∙ ap (λ c. passed (value p.line c) p.line (lines (drop (e + 1) s))) (value_part s p.place v e value_inside.0 value_inside.1)
@@ -184,11 +184,11 @@ module _ {A : Type 0} (s key : Text) (p : At) (value : ℕ → Text → Taken A)
 
         pub value_refused : (n : ℕ) → value p.line (take (e - v) (drop v s)) ≡ wrong n → x ≡ failed (fault s n p)
         unfolding passed
-        value_refused n g = value_taken e l v told.0 ∙ ap (λ y. passed y p.line (lines (drop (e + 1) s))) g ∙ sym (ap failed (fault_sound s n p e l))
+        value_refused n g = value_taken_lem e l v told.0 ∙ ap (λ y. passed y p.line (lines (drop (e + 1) s))) g ∙ sym (ap failed (fault_sound s n p e l))
 
         pub value_read : (a : A) → value p.line (take (e - v) (drop v s)) ≡ right a → x ≡ after a (p.line + 1) (lines (drop (e + 1) s))
         unfolding passed
-        value_read a g = value_taken e l v told.0 ∙ ap (λ y. passed y p.line (lines (drop (e + 1) s))) g
+        value_read a g = value_taken_lem e l v told.0 ∙ ap (λ y. passed y p.line (lines (drop (e + 1) s))) g
 
         -- where the next line begins
         pub value_placed : Placed s p → Placed s (record { place = e + 1; line = p.line + 1 })

@@ -27,7 +27,7 @@ use Rattle.text.specs.Lines.{lines, line_feed, longest_line, plain_byte, plain_b
 use Rattle.text.specs.Numbers.{number_in}
 use Rattle.text.specs.Vocabulary.KeyLines.{fed_number}
 use Rattle.text.specs.Vocabulary.Readings.{read_at, fault}
-use Rattle.text.proofs.KeyLines.{word_front, refused_as, value_inside, value_taken}
+use Rattle.text.proofs.KeyLines.{word_front, refused_as, value_inside, value_taken_lem}
 use Rattle.text.proofs.NumbersIn.{number_within, number_is}
 use Rattle.text.proofs.Plain.{plain_from, plain_first, plain_past, plain_start}
 use Rattle.text.proofs.SoundEnds.{SoundLine, sound_found, end_from_plain, end_here}
@@ -126,7 +126,7 @@ module _ (key s : Text) (low most : ℕ) (p : At) (plain : plain_bytes key ≡ t
   by_value : (e : ℕ) → SoundLine s p.place e → (o : Option ℕ) → number_in low most (take (e - v) (drop v s)) ≡ o
       → read_at (number_line key low most) s p ≡ passed (taken o) p.line (lines (drop (e + 1) s))
   unfolding number_line
-  by_value e l o f = value_taken s key p _ plain e l v keyed ∙ ap (λ o. passed (taken o) p.line (lines (drop (e + 1) s))) f
+  by_value e l o f = value_taken_lem s key p _ plain e l v keyed ∙ ap (λ o. passed (taken o) p.line (lines (drop (e + 1) s))) f
 
   -- a number with an LF behind it, not too far on: the line is sound, and the number is that of the line
   module _ (e n : ℕ) (f : fed_number low most s v ≡ got e n) (short : e ≤ p.place + longest_line) where
