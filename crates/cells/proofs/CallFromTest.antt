@@ -1,8 +1,8 @@
 -- From the test of a call to what holds of it. Assumes nothing.
+use Rattle.std.specs.Prelude.{Option, None, Some}
 use Prim.Native.Nat.{ℕ, ◌≤◌, ◌<◌}
 use mathlib.Core.Bool.{Bool, true, false, ◌&&◌, ◌||◌, false≢true}
 use mathlib.Core.List.{List, [], ◌∷◌}
-use mathlib.Core.Option.{Option, none, some}
 use mathlib.Core.Path.{◌≡◌, refl, sym, ap, subst, ◌∙◌}
 use native.Mathlib.Omega.{arith}
 use borrow.Author.Tests.{leb-true, leb-false}
@@ -87,10 +87,10 @@ module _ (m : Model) (c : Cells) (l : ℕ) where
     bound_facts o callee e = go (standing_of m c l) refl e
       where
         go : (x : Option Standing) → standing_of m c l ≡ x
-            → (elim x [ none ↦ false | some s ↦ zero_from most_locals s.body.locals (λ i. of_call c l (local i)) && line_holds m c l s.statement ]) ≡ true
+            → (elim x [ None ↦ false | Some s ↦ zero_from most_locals s.body.locals (λ i. of_call c l (local i)) && line_holds m c l s.statement ]) ≡ true
             → Bound m (of_object c o Layout.class) (of_call c l)
-        go none f e = absurd (false≢true e)
-        go (some s) f e =
+        go None f e = absurd (false≢true e)
+        go (Some s) f e =
             let (a, b, st, i) = stands_at m c l o callee s f in
             let zero = zero_from most_locals s.body.locals (λ i. of_call c l (local i)) in
             let line : line_holds m c l s.statement ≡ true = both_right zero _ e in
@@ -120,7 +120,7 @@ module _ (m : Model) (c : Cells) (l : ℕ) where
         let (s, (j, (k, _))) = passed (
         (in_stages c l bound running || in_stage c l taken)
         ∷ is (of_call c l Layout.method) 0
-        ∷ (elim (class_of m c (nat (of_call c l Layout.callee))) [ none ↦ false | some k ↦ runs k ])
+        ∷ (elim (class_of m c (nat (of_call c l Layout.callee))) [ None ↦ false | Some k ↦ runs k ])
         ∷ []) (asked (eq_z (of_call c l Layout.caller) nobody) _ e (equalled _ 0 none-called)) in
         let (class, f, u) = runs_at (class_of m c (nat (of_call c l Layout.callee))) refl k in
         let z = stage_at (in_stages c l bound running) refl s in
@@ -134,10 +134,10 @@ module _ (m : Model) (c : Cells) (l : ℕ) where
           runs = u;
         }
       where
-        runs_at : (x : Option Class) → class_of m c (nat (of_call c l Layout.callee)) ≡ x → (elim x [ none ↦ false | some k ↦ runs k ]) ≡ true
-            → (k : Class) × (class_of m c (nat (of_call c l Layout.callee)) ≡ some k) × (runs k ≡ true)
-        runs_at none f e = absurd (false≢true e)
-        runs_at (some k) f e = (k, f, e)
+        runs_at : (x : Option Class) → class_of m c (nat (of_call c l Layout.callee)) ≡ x → (elim x [ None ↦ false | Some k ↦ runs k ]) ≡ true
+            → (k : Class) × (class_of m c (nat (of_call c l Layout.callee)) ≡ Some k) × (runs k ≡ true)
+        runs_at None f e = absurd (false≢true e)
+        runs_at (Some k) f e = (k, f, e)
 
         stage_at : (b : Bool) → in_stages c l bound running ≡ b → b || in_stage c l taken ≡ true
             → (let s = nat (of_call c l Layout.stage) in (bound ≤ s) × (s ≡ answered → ⊥) × (s ≡ replied → ⊥))

@@ -1,12 +1,12 @@
 -- A configuration as facts: what holds of an object, of a call and of the whole, in document 01's words. A row is the function that gives its
 -- cells by their fields, so that what holds of a row is said of any row with those cells. Assumes nothing.
+use Rattle.std.specs.Prelude.{Some, slice_get}
 use Prim.Native.Nat.{ℕ, ◌≤◌, ◌<◌}
 use mathlib.Core.Bool.{true}
-use mathlib.Core.Option.{some}
 use mathlib.Core.Path.{◌≡◌}
 use mathlib.Core.Logic.{◌≢◌}
 use lib.IntN.{ℤ, pos}
-use lib.ListN.{length, get_elem?}
+use lib.ListN.{length}
 use Rattle.whole.specs.Whole.{nat}
 use Rattle.layout.specs.Layout
 use Rattle.layout.specs.Layout.{Cells, all_cells, object_rows, call_rows, most_attributes, most_locals, read, objects, calls, of_object, of_call}
@@ -27,7 +27,7 @@ ZeroFrom family from field = (i : ℕ) → from ≤ i → i < family → field i
 -- "each class exists": the class of a cell
 pub record ClassAt (m : Model) (k : ℤ) (class : Class) : Type 0 where
   pub counts : Counts k
-  pub there : get_elem? m (nat k) ≡ some class
+  pub there : slice_get m (nat k) ≡ Some class
 
 -- an object with such a row, in a configuration with so many calls, where the call that it names has such a stage and callee
 pub record ObjectFacts (m : Model) (calls : ℕ) (stage callee : ℤ) (o : ℕ) (row : Fields) : Type 0 where
@@ -46,10 +46,10 @@ pub record StandsAt (m : Model) (k method args line : ℤ) : Type 0 where
   pub body : Method
   pub statement : Code
   pub exists : ClassAt m k class
-  pub has : get_elem? class.methods (nat method) ≡ some body
+  pub has : slice_get class.methods (nat method) ≡ Some body
   pub params : args ≡ pos body.params
   pub counts : Counts line
-  pub inside : get_elem? body.code (nat line) ≡ some statement
+  pub inside : slice_get body.code (nat line) ≡ Some statement
 
 -- "In stages 1 and 2 args is 0..4, v cells from args on and line are 0.", and cleared is
 pub record Unbound (row : Fields) : Type 0 where

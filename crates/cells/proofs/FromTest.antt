@@ -1,13 +1,12 @@
 -- From the test of a configuration to what holds of it, condition by condition. Assumes nothing.
+use Rattle.std.specs.Prelude.{Option, None, Some, slice_get}
 use Prim.Native.Nat.{ℕ, ◌≤◌}
 use mathlib.Core.Bool.{Bool, true, false, ◌&&◌, ◌||◌, false≢true}
-use mathlib.Core.Option.{Option, none, some}
 use mathlib.Core.Path.{◌≡◌, refl, sym, ap, ◌∙◌}
 use native.Mathlib.Omega.{arith}
 use borrow.Author.Tests.{le-leb, eqb-true}
 use lib.Dec.{eqb, leb}
 use lib.IntN.{ℤ, pos}
-use lib.ListN.{get_elem?}
 use Rattle.whole.specs.Plain.{whenever, only_if}
 use Rattle.whole.specs.Whole.{between, eq_z, nat, natural}
 use Rattle.whole.proofs.Both.{both_left, both_right}
@@ -30,11 +29,11 @@ zeros family from field e i h k =
     equals (field i) 0 (asked (leb from i) _ (each_below (λ i. whenever (leb from i) (is (field i) 0)) family e i k) (le-leb from i h))
 
 -- a number among the first so many
-pub up_to_number : (n : ℕ) (z : ℤ) (i : ℕ) → up_to n z ≡ some i → Number 1 n z × (nat z ≡ i)
+pub up_to_number : (n : ℕ) (z : ℤ) (i : ℕ) → up_to n z ≡ Some i → Number 1 n z × (nat z ≡ i)
 unfolding up_to only_if
 up_to_number n z i e = go (between (pos 1) (pos n) z) refl e
   where
-    go : (b : Bool) → between (pos 1) (pos n) z ≡ b → only_if b (nat z) ≡ some i → Number 1 n z × (nat z ≡ i)
+    go : (b : Bool) → between (pos 1) (pos n) z ≡ b → only_if b (nat z) ≡ Some i → Number 1 n z × (nat z ≡ i)
     go true f e = (number 1 n z f, cc)
     go false f e = absurd (no_some e)
 
@@ -78,35 +77,35 @@ shape_is s t e = go s t (eqb-true (shape_number s) (shape_number t) e)
     go s t e = sym (back t) ∙ ap shape (sym e) ∙ back s
 
 -- the method that binding finds
-pub binds_found : (m : Model) (k j n : ℕ) (b : Method) → binds_to m k j n ≡ some b
-    → (class : Class) × (get_elem? m k ≡ some class) × (get_elem? class.methods j ≡ some b) × (b.params ≡ n)
+pub binds_found : (m : Model) (k j n : ℕ) (b : Method) → binds_to m k j n ≡ Some b
+    → (class : Class) × (slice_get m k ≡ Some class) × (slice_get class.methods j ≡ Some b) × (b.params ≡ n)
 unfolding binds_to
-binds_found m k j n b e = go (get_elem? m k) refl e
+binds_found m k j n b e = go (slice_get m k) refl e
   where
-    taking : (b' : Method) (t : Bool) → eqb b'.params n ≡ t → (elim t [ true ↦ some b' | false ↦ none ]) ≡ some b → (b' ≡ b) × (b'.params ≡ n)
+    taking : (b' : Method) (t : Bool) → eqb b'.params n ≡ t → (elim t [ true ↦ Some b' | false ↦ None ]) ≡ Some b → (b' ≡ b) × (b'.params ≡ n)
     taking b' true f e = (cc, eqb-true b'.params n f)
     taking b' false f e = absurd (no_some e)
 
-    having : (class : Class) (x : Option Method) → get_elem? class.methods j ≡ x → (elim x [ none ↦ none | some m ↦ takes n m ]) ≡ some b
-        → (get_elem? class.methods j ≡ some b) × (b.params ≡ n)
-    having class none f e = absurd (no_some e)
-    having class (some b') f e =
+    having : (class : Class) (x : Option Method) → slice_get class.methods j ≡ x → (elim x [ None ↦ None | Some m ↦ takes n m ]) ≡ Some b
+        → (slice_get class.methods j ≡ Some b) × (b.params ≡ n)
+    having class None f e = absurd (no_some e)
+    having class (Some b') f e =
         let t = taking b' (eqb b'.params n) refl (unfold takes in e) in
-        (f ∙ ap some t.0, ap (λ (x : Method). x.params) (sym t.0) ∙ t.1)
+        (f ∙ ap Some t.0, ap (λ (x : Method). x.params) (sym t.0) ∙ t.1)
 
-    go : (x : Option Class) → get_elem? m k ≡ x → (elim x [ none ↦ none | some class ↦ method_of class j n ]) ≡ some b
-        → (class : Class) × (get_elem? m k ≡ some class) × (get_elem? class.methods j ≡ some b) × (b.params ≡ n)
-    go none f e = absurd (no_some e)
-    go (some class) f e = let h = having class (get_elem? class.methods j) refl (unfold method_of in e) in (class, f, h.0, h.1)
+    go : (x : Option Class) → slice_get m k ≡ x → (elim x [ None ↦ None | Some class ↦ method_of class j n ]) ≡ Some b
+        → (class : Class) × (slice_get m k ≡ Some class) × (slice_get class.methods j ≡ Some b) × (b.params ≡ n)
+    go None f e = absurd (no_some e)
+    go (Some class) f e = let h = having class (slice_get class.methods j) refl (unfold method_of in e) in (class, f, h.0, h.1)
 
 module _ (m : Model) (c : Cells) where
   -- the class of an object
-  pub class_at : (o : ℕ) (k : Class) → class_of m c o ≡ some k → ClassAt m (of_object c o Layout.class) k
+  pub class_at : (o : ℕ) (k : Class) → class_of m c o ≡ Some k → ClassAt m (of_object c o Layout.class) k
   unfolding class_of
   class_at o k e =
-      let f = found (natural (of_object c o Layout.class)) (λ n. get_elem? m n) k e in
+      let f = found (natural (of_object c o Layout.class)) (λ n. slice_get m n) k e in
       let z = of_natural (of_object c o Layout.class) f.0 f.1 in
-      record { counts = counts_of z; there = ap (get_elem? m) (nat_of z) ∙ f.2 }
+      record { counts = counts_of z; there = ap (slice_get m) (nat_of z) ∙ f.2 }
 
   -- "an object's running label is 0 or a stage 4 call with that callee"
   abbrev Named : ℕ → Type 0
@@ -122,9 +121,9 @@ module _ (m : Model) (c : Cells) where
       z = of_object c o Layout.running_label
 
       there : (x : Option ℕ) → up_to (rows_in_use c) z ≡ x
-          → (elim x [ none ↦ false | some l ↦ in_stage c l running && is (of_call c l Layout.callee) o ]) ≡ true → Named o
-      there none f e = absurd (false≢true e)
-      there (some l) f e =
+          → (elim x [ None ↦ false | Some l ↦ in_stage c l running && is (of_call c l Layout.callee) o ]) ≡ true → Named o
+      there None f e = absurd (false≢true e)
+      there (Some l) f e =
           let n = up_to_number (rows_in_use c) z l f in
           let a = equals (of_call c l Layout.stage) running (both_left (in_stage c l running) _ e) in
           let b = equals (of_call c l Layout.callee) o (both_right (in_stage c l running) _ e) in (
@@ -133,7 +132,7 @@ module _ (m : Model) (c : Cells) where
           )
 
       go : (b : Bool) → eq_z z (pos 0) ≡ b
-          → b || (elim (up_to (rows_in_use c) z) [ none ↦ false | some l ↦ in_stage c l running && is (of_call c l Layout.callee) o ]) ≡ true → Named o
+          → b || (elim (up_to (rows_in_use c) z) [ None ↦ false | Some l ↦ in_stage c l running && is (of_call c l Layout.callee) o ]) ≡ true → Named o
       go true f e =
           let y = equals z 0 f in
           let w = nat_of y in
@@ -146,10 +145,10 @@ module _ (m : Model) (c : Cells) where
   object_facts o e = go (class_of m c o) refl e
     where
       go : (x : Option Class) → class_of m c o ≡ x
-          → (elim x [ none ↦ false | some k ↦ zero_from most_attributes k.attrs (λ i. of_object c o (attribute i)) && running_named m c o ]) ≡ true
+          → (elim x [ None ↦ false | Some k ↦ zero_from most_attributes k.attrs (λ i. of_object c o (attribute i)) && running_named m c o ]) ≡ true
           → ObjectHolds m c o
-      go none f e = absurd (false≢true e)
-      go (some k) f e =
+      go None f e = absurd (false≢true e)
+      go (Some k) f e =
           let zero = zero_from most_attributes k.attrs (λ i. of_object c o (attribute i)) in
           let n = running_named_lem o (both_right zero (running_named m c o) e) in
           record {
@@ -170,8 +169,8 @@ module _ (m : Model) (c : Cells) where
   stages_are l s t e = number s t (of_call c l Layout.stage) e
 
   -- the method that a call is bound to
-  pub body_at : (l o : ℕ) → of_call c l Layout.callee ≡ pos o → (b : Method) → body_of m c l ≡ some b
-      → (class : Class) × ClassAt m (of_object c o Layout.class) class × (get_elem? class.methods (nat (of_call c l Layout.method)) ≡ some b)
+  pub body_at : (l o : ℕ) → of_call c l Layout.callee ≡ pos o → (b : Method) → body_of m c l ≡ Some b
+      → (class : Class) × ClassAt m (of_object c o Layout.class) class × (slice_get class.methods (nat (of_call c l Layout.method)) ≡ Some b)
       × (of_call c l Layout.args ≡ pos b.params)
   unfolding body_of
   body_at l o callee b e =
@@ -184,17 +183,17 @@ module _ (m : Model) (c : Cells) where
       let zk : of_object c o Layout.class ≡ pos k = ap (λ o. of_object c o Layout.class) (sym same) ∙ of_natural _ k ek in
       let zj = of_natural (of_call c l Layout.method) j ej in
       let zn = of_natural (of_call c l Layout.args) n en in
-      (class, record { counts = counts_of zk; there = ap (get_elem? m) (nat_of zk) ∙ g1 }, ap (get_elem? class.methods) (nat_of zj) ∙ g2, zn ∙ ap pos (sym g3))
+      (class, record { counts = counts_of zk; there = ap (slice_get m) (nat_of zk) ∙ g1 }, ap (slice_get class.methods) (nat_of zj) ∙ g2, zn ∙ ap pos (sym g3))
 
   -- where a call stands
-  pub stands_at : (l o : ℕ) → of_call c l Layout.callee ≡ pos o → (s : Standing) → standing_of m c l ≡ some s
+  pub stands_at : (l o : ℕ) → of_call c l Layout.callee ≡ pos o → (s : Standing) → standing_of m c l ≡ Some s
       → (a : StandsAt m (of_object c o Layout.class) (of_call c l Layout.method) (of_call c l Layout.args) (of_call c l Layout.line))
       × (a.body ≡ s.body) × (a.statement ≡ s.statement) × (nat (of_call c l Layout.line) ≡ s.at)
   unfolding standing_of
   stands_at l o callee s e =
       let (b, eb, e1) = found (body_of m c l) _ s e in
       let (i, ei, e2) = found (natural (of_call c l Layout.line)) _ s e1 in
-      let (st, es, e3) = found (get_elem? b.code i) _ s e2 in
+      let (st, es, e3) = found (slice_get b.code i) _ s e2 in
       let (class, exists, has, params) = body_at l o callee b eb in
       let zi = of_natural (of_call c l Layout.line) i ei in
       let q : record { body = b; at = i; statement = st } ≡ s = cc in (
@@ -206,7 +205,7 @@ module _ (m : Model) (c : Cells) where
           has = has;
           params = params;
           counts = counts_of zi;
-          inside = ap (get_elem? b.code) (nat_of zi) ∙ es;
+          inside = ap (slice_get b.code) (nat_of zi) ∙ es;
         },
         ap (λ (s : Standing). s.body) q,
         ap (λ (s : Standing). s.statement) q,

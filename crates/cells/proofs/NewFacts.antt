@@ -1,13 +1,13 @@
 -- A new object and a new call hold what they must. Assumes nothing.
+use Rattle.std.specs.Prelude.{Some, slice_get}
 use Prim.Native.Nat.{ℕ, zero, suc, ◌≤◌, ◌<◌}
 use mathlib.Core.Bool.{true}
 use mathlib.Core.List.{List, [], ◌∷◌}
-use mathlib.Core.Option.{some}
 use mathlib.Core.Path.{◌≡◌, refl, sym, ap, ◌∙◌}
 use native.Mathlib.Omega.{arith}
 use borrow.Author.Tests.{eqb-true}
 use lib.IntN.{ℤ, pos}
-use lib.ListN.{length, get_elem?, get_or-eq_default}
+use lib.ListN.{length, get_or-eq_default}
 use Rattle.whole.specs.Whole.{nat}
 use Rattle.layout.specs.Stages.{invoked, running, taken}
 use Rattle.code.specs.Reader.{last_method}
@@ -21,12 +21,12 @@ use Rattle.layout.proofs.Rows.{valued}
 use Rattle.layout.proofs.NewRows.{object_values, call_values, new_attribute, new_local}
 
 -- a class of the model, for its index
-pub class_of : (m : Model) (k : ℕ) (class : Class) → get_elem? m k ≡ some class → ClassAt m (pos k) class
+pub class_of : (m : Model) (k : ℕ) (class : Class) → slice_get m k ≡ Some class → ClassAt m (pos k) class
 unfolding nat
 class_of m k class e = record { counts = refl; there = e }
 
 -- "`new` makes the next object, arguments in its first attributes", with a running label that is 0 or a stage 4 call with that callee
-pub new_object_facts : (m : Model) (r : ℕ) (s t : ℤ) (o k l : ℕ) (zs : List ℤ) (class : Class) → get_elem? m k ≡ some class → length zs ≤ class.attrs
+pub new_object_facts : (m : Model) (r : ℕ) (s t : ℤ) (o k l : ℕ) (zs : List ℤ) (class : Class) → slice_get m k ≡ Some class → length zs ≤ class.attrs
     → l ≤ r → (1 ≤ l → (s ≡ pos running) × (t ≡ pos o)) → ObjectFacts m r s t o (valued (object_values k l zs))
 unfolding nat
 new_object_facts m r s t o k l zs class e few in_use_lem named =
@@ -39,13 +39,13 @@ new_object_facts m r s t o k l zs class e few in_use_lem named =
     }
 
 -- an item within a list
-pub item_at : {A : Type 0} (xs : List A) (i : ℕ) → i < length xs → (x : A) × (get_elem? xs i ≡ some x)
+pub item_at : {A : Type 0} (xs : List A) (i : ℕ) → i < length xs → (x : A) × (slice_get xs i ≡ Some x)
 item_at [] i h = absurd (omega arith)
 item_at (x ∷ xs) zero h = (x, refl)
 item_at (x ∷ xs) (suc i) h = item_at xs i (omega arith)
 
 -- "caller 0, method 0, stage 4, running there", where the class has run 1
-pub spawned_facts : (m : Model) → AcceptedModel m → (n k l o : ℕ) (class : Class) → get_elem? m k ≡ some class → runs class ≡ true → 1 ≤ o → o ≤ n
+pub spawned_facts : (m : Model) → AcceptedModel m → (n k l o : ℕ) (class : Class) → slice_get m k ≡ Some class → runs class ≡ true → 1 ≤ o → o ≤ n
     → CallFacts m n (pos k) (pos l) l (valued (call_values running 0 o 0 []))
 unfolding nat runs
 spawned_facts m accepted n k l o class e run a b =

@@ -1,14 +1,13 @@
 -- From what holds of an object and of a call back to the tests. Assumes nothing.
+use Rattle.std.specs.Prelude.{None, Some, slice_get}
 use Prim.Native.Nat.{ℕ, ◌≤◌, ◌<◌}
 use mathlib.Core.Bool.{Bool, true, false, ◌&&◌, ◌||◌}
 use mathlib.Core.List.{[], ◌∷◌}
-use mathlib.Core.Option.{none, some}
 use mathlib.Core.Path.{◌≡◌, refl, sym, ap, subst}
 use native.Mathlib.Omega.{arith}
 use borrow.Author.Tests.{leb-true, eq-eqb}
 use lib.Dec.{leb}
 use lib.IntN.{ℤ, pos}
-use lib.ListN.{get_elem?}
 use Rattle.whole.specs.Plain.{all, whenever, only_if}
 use Rattle.whole.specs.Whole.{between, eq_z, nat, natural}
 use Rattle.whole.proofs.Both.{both, both_left, both_right}
@@ -35,7 +34,7 @@ zeroed family from field h =
     below_each (λ i. whenever (leb from i) (is (field i) 0)) family (λ i k. asking (leb from i) _ (λ t. equalled _ 0 (h i (leb-true from i t) k)))
 
 -- a number among the first so many
-pub number_up_to : (n : ℕ) (z : ℤ) → Number 1 n z → up_to n z ≡ some (nat z)
+pub number_up_to : (n : ℕ) (z : ℤ) → Number 1 n z → up_to n z ≡ Some (nat z)
 unfolding up_to only_if
 number_up_to n z h = ap (λ b. only_if b (nat z)) (numbered 1 n z h)
 
@@ -45,14 +44,14 @@ unfolding is_shape
 shape_tested s t e = eq-eqb (shape_number s) (shape_number t) (ap shape_number (sym e))
 
 -- the method that binding finds
-pub finds_binding : (m : Model) (k j : ℕ) (class : Class) (b : Method) → get_elem? m k ≡ some class → get_elem? class.methods j ≡ some b
-    → binds_to m k j b.params ≡ some b
+pub finds_binding : (m : Model) (k j : ℕ) (class : Class) (b : Method) → slice_get m k ≡ Some class → slice_get class.methods j ≡ Some b
+    → binds_to m k j b.params ≡ Some b
 unfolding binds_to method_of takes
 finds_binding m k j class b e f = rw (e, binds_to) (rw (f, method_of) (rw (eq-eqb b.params b.params refl, takes)))
 
 module _ (m : Model) (c : Cells) where
   -- the class of an object
-  pub class_there : (o : ℕ) (k : Class) → ClassAt m (of_object c o Layout.class) k → class_of m c o ≡ some k
+  pub class_there : (o : ℕ) (k : Class) → ClassAt m (of_object c o Layout.class) k → class_of m c o ≡ Some k
   unfolding class_of
   class_there o k h = rw (natural_of _ h.counts) h.there
 
@@ -64,7 +63,7 @@ module _ (m : Model) (c : Cells) where
       z : ℤ
       z = of_object c o Layout.running_label
 
-      labelled : (nat z ≡ 0 → ⊥) → (elim (up_to (rows_in_use c) z) [ none ↦ false | some l ↦ in_stage c l running && is (of_call c l Layout.callee) o ]) ≡ true
+      labelled : (nat z ≡ 0 → ⊥) → (elim (up_to (rows_in_use c) z) [ None ↦ false | Some l ↦ in_stage c l running && is (of_call c l Layout.callee) o ]) ≡ true
       labelled n =
           let k : 1 ≤ nat z = omega arith in
           let r = h.running k in
@@ -78,7 +77,7 @@ module _ (m : Model) (c : Cells) where
   -- where a call stands
   pub body_there : (l o : ℕ) → of_call c l Layout.callee ≡ pos o
       → (a : StandsAt m (of_object c o Layout.class) (of_call c l Layout.method) (of_call c l Layout.args) (of_call c l Layout.line))
-      → Counts (of_call c l Layout.method) → body_of m c l ≡ some a.body
+      → Counts (of_call c l Layout.method) → body_of m c l ≡ Some a.body
   unfolding body_of natural
   body_there l o callee a method =
       rw (callee, natural_of (of_object c o Layout.class) a.exists.counts, natural_of (of_call c l Layout.method) method, a.params)
@@ -87,7 +86,7 @@ module _ (m : Model) (c : Cells) where
   pub standing_there : (l o : ℕ) → of_call c l Layout.callee ≡ pos o
       → (a : StandsAt m (of_object c o Layout.class) (of_call c l Layout.method) (of_call c l Layout.args) (of_call c l Layout.line))
       → Counts (of_call c l Layout.method)
-      → standing_of m c l ≡ some (record { body = a.body; at = nat (of_call c l Layout.line); statement = a.statement })
+      → standing_of m c l ≡ Some (record { body = a.body; at = nat (of_call c l Layout.line); statement = a.statement })
   unfolding standing_of
   standing_there l o callee a method = rw (body_there l o callee a method, natural_of (of_call c l Layout.line) a.counts, a.inside)
 
@@ -138,9 +137,9 @@ module _ (m : Model) (c : Cells) where
             in_stage_lem m c l h.stage h.cleared taken (omega arith))
 
         holds : Callerless m (of_object c o Layout.class) (of_call c l Layout.stage) (of_call c l Layout.method)
-            → all ((in_stages c l bound running || in_stage c l taken) ∷ is (of_call c l Layout.method) 0 ∷ (elim (class_of m c o) [ none ↦ false | some k ↦ runs k ]) ∷ []) ≡ true
+            → all ((in_stages c l bound running || in_stage c l taken) ∷ is (of_call c l Layout.method) 0 ∷ (elim (class_of m c o) [ None ↦ false | Some k ↦ runs k ]) ∷ []) ≡ true
         holds r =
-            let run : (elim (class_of m c o) [ none ↦ false | some k ↦ runs k ]) ≡ true = rw (class_there o r.class r.exists) r.runs in
+            let run : (elim (class_of m c o) [ None ↦ false | Some k ↦ runs k ]) ≡ true = rw (class_there o r.class r.exists) r.runs in
             both _ _ (stages r) (both _ _ (equalled _ 0 r.first) (both _ true run refl))
 
     pub call_test : Counts (read c objects) → call_holds m c l ≡ true

@@ -1,6 +1,5 @@
 -- "A configuration of a model has ..": condition by condition. Assumes nothing.
-use Rattle.std.specs.Prelude.{ℕ, ◌+◌, Bool, true, false, ◌&&◌, ◌||◌, [], ◌∷◌, leb, eqb, ℤ, pos, length}
-use Rattle.std.proofs.Math.Option.{none, some}
+use Rattle.std.specs.Prelude.{ℕ, ◌+◌, Bool, true, false, ◌&&◌, ◌||◌, [], ◌∷◌, leb, eqb, ℤ, pos, length, None, Some}
 use Rattle.whole.specs.Plain.{all, all_to, all_below, whenever}
 use Rattle.whole.specs.Whole.{between, eq_z, nat}
 use Rattle.layout.specs.Layout.{Cells, all_cells, object_rows, call_rows, most_attributes, most_locals, Place, header, object, call, place_of, read, objects, calls, of_object, of_call, running_label, attribute, caller, callee, method, args, line, cleared, value, local}
@@ -36,15 +35,15 @@ module _ (m : Model) (c : Cells) where
   -- "an object's running label is 0 or a stage 4 call with that callee"
   unfoldable pub running_named : ℕ → Bool
   running_named o = is (of_object c o running_label) 0 || (elim (label_of c (of_object c o running_label)) [
-    | none ↦ false
-    | some l ↦ in_stage c l running && is (of_call c l callee) o
+    | None ↦ false
+    | Some l ↦ in_stage c l running && is (of_call c l callee) o
   ])
 
   -- "each class exists; attributes from attrs on are 0"
   unfoldable pub object_holds : ℕ → Bool
   object_holds o = elim (class_of m c o) [
-    | none ↦ false
-    | some k ↦ zero_from most_attributes k.attrs (λ i. of_object c o (attribute i)) && running_named o
+    | None ↦ false
+    | Some k ↦ zero_from most_attributes k.attrs (λ i. of_object c o (attribute i)) && running_named o
   ]
 
   -- "Stage is 1..7, caller 0..objects, callee 1..objects, method 0..7."
@@ -82,8 +81,8 @@ module _ (m : Model) (c : Cells) where
   -- "From stage 3 the callee's class has the method, args is its params, line is inside it, v cells from locals on are 0."
   unfoldable pub bound_holds : ℕ → Bool
   bound_holds l = elim (standing_of m c l) [
-    | none ↦ false
-    | some s ↦ zero_from most_locals s.body.locals (λ i. of_call c l (local i)) && line_holds l s.statement
+    | None ↦ false
+    | Some s ↦ zero_from most_locals s.body.locals (λ i. of_call c l (local i)) && line_holds l s.statement
   ]
 
   -- "Caller 0 stands only in stages 3, 4 and 7, with method 0 of a class with run 1."
@@ -91,7 +90,7 @@ module _ (m : Model) (c : Cells) where
   callerless_holds l = whenever (eq_z (of_call c l caller) nobody) (all (
       (in_stages c l bound running || in_stage c l taken)
       ∷ is (of_call c l method) 0
-      ∷ (elim (class_of m c (nat (of_call c l callee))) [ none ↦ false | some k ↦ runs k ])
+      ∷ (elim (class_of m c (nat (of_call c l callee))) [ None ↦ false | Some k ↦ runs k ])
       ∷ []))
 
   unfoldable pub call_holds : ℕ → Bool

@@ -1,7 +1,5 @@
 -- Where an object and a call stand in the model: the class, the body that binding finds, and the statement at the line. Assumes nothing.
-use Rattle.std.specs.Prelude.{ℕ, List, map}
-use Rattle.std.proofs.Math.Option.{Option, some}
-use Rattle.std.proofs.Math.ListN.{get_elem?}
+use Rattle.std.specs.Prelude.{ℕ, List, map, Option, Some, slice_get}
 use Rattle.whole.specs.Plain.{◌>>=◌}
 use Rattle.whole.specs.Whole.{natural}
 use Rattle.layout.specs.Layout.{Cells, of_object, of_call, class, callee, method, args, line}
@@ -14,7 +12,7 @@ use Rattle.model.specs.Model.{Model, Class, Method, binds_to}
 unfoldable pub class_of : Model → Cells → ℕ → Option Class
 class_of m c o = do
   k ← natural (of_object c o class)
-  get_elem? m k
+  slice_get m k
 
 -- a call's body: the method that binding finds in its callee's class
 unfoldable pub body_of : Model → Cells → ℕ → Option Method
@@ -35,8 +33,8 @@ unfoldable pub standing_of : Model → Cells → ℕ → Option Standing
 standing_of m c l = do
   b ← body_of m c l
   i ← natural (of_call c l line)
-  s ← get_elem? b.code i
-  some (record { body = b; at = i; statement = s })
+  s ← slice_get b.code i
+  Some (record { body = b; at = i; statement = s })
 
 -- the shapes of a body's lines
 unfoldable pub shapes_of : Method → List Shape

@@ -1,9 +1,7 @@
--- A configuration by its tests in the order in which the code asks them, and a test of each number up to another from the last downwards.
--- Assumes nothing.
-use Prim.Native.Nat.{ℕ, suc, ◌+◌, ◌-◌, ◌*◌, ◌≤◌}
+-- A configuration by its tests in the order in which the code asks them. Assumes nothing.
+use Prim.Native.Nat.{◌+◌, ◌*◌, ◌≤◌}
 use mathlib.Core.Bool.{Bool, true, false, ◌&&◌}
-use mathlib.Core.Path.{◌≡◌, refl, sym, ap, ◌∙◌}
-use native.Mathlib.Omega.{arith}
+use mathlib.Core.Path.{◌≡◌, refl}
 use borrow.Author.Tests.{eq-eqb}
 use lib.IntN.{pos}
 use lib.ListN.{length}
@@ -17,27 +15,6 @@ use Rattle.layout.specs.Vocabulary.Found.{zeros_in}
 use Rattle.model.specs.Model.{Model}
 use Rattle.cells.specs.Configuration.{object_holds, call_holds, unused_hold, is_configuration}
 use Rattle.checking.proofs.Unused.{two_passes}
-
--- the test of the last number, held or not
-module _ (test : ℕ → Bool) where
-  one_more_lem : (n : ℕ) (b : Bool) → test (suc n) ≡ b → all_to (suc n) test ≡ (elim b [ true ↦ all_to n test | false ↦ false ])
-  unfolding all_to
-  one_more_lem n b e = rw (e, all_to)
-
-  by_last : (n : ℕ) (b : Bool) → 1 ≤ n → test n ≡ b → all_to n test ≡ (elim b [ true ↦ all_to (n - 1) test | false ↦ false ])
-  by_last n b h e =
-      let s : n ≡ suc (n - 1) = omega arith in
-      ap (λ k. all_to k test) s ∙ one_more_lem (n - 1) b (ap test (sym s) ∙ e)
-
-  pub last_held : (n : ℕ) → 1 ≤ n → test n ≡ true → all_to (n - 1) test ≡ all_to n test
-  last_held n h e = sym (by_last n true h e)
-
-  pub last_failed : (n : ℕ) → 1 ≤ n → test n ≡ false → all_to n test ≡ false
-  last_failed n h e = by_last n false h e
-
-  pub none_asked : all_to 0 test ≡ true
-  unfolding all_to
-  none_asked = refl
 
 -- the counts of a configuration
 abbrev pub counts : Cells → Bool

@@ -1,32 +1,23 @@
--- A code value that was read up to its end, and the parts of a form, by what the code finds. Assumes nothing.
+-- A reading in parts, by what the code finds of each: a part is refused, or it is read and the rest goes on behind it. Assumes nothing.
+use Rattle.std.specs.Prelude.{Result, Err, Ok}
+use Rattle.std.specs.Result.{IsErrAnd}
 use Prim.Native.Nat.{ℕ}
-use mathlib.Core.Bool.{Bool, true, false}
+use mathlib.Core.List.{List, [], ◌∷◌}
 use mathlib.Core.Path.{◌≡◌, refl, sym, ap, ◌∙◌}
-use lib.Dec.{eqb}
 use lib.ListN.{length}
-use Rattle.whole.specs.declared.Worked.{Worked}
-use Rattle.terms.specs.declared.ReadWord.TheVariants as Word
+use borrow.Author.Tests.{eq-eqb, ne_eqb}
+use Rattle.whole.specs.Whole.{Worked}
+use Rattle.whole.proofs.Tested.{passed_on}
 use Rattle.terms.specs.Bytes.{Text}
-use Rattle.terms.specs.Parsed.{Parsed, got, bad, next, mapped, ended}
+use Rattle.terms.specs.Parsed.{Parsed, got, bad, next, mapped, word, ended, closed}
+use Rattle.terms.specs.Vocabulary.Answers.{as_result}
+use Rattle.terms.proofs.Following.{mapped_got, mapped_bad}
 use Rattle.code.specs.declared.Arguments.{Arguments}
-use Rattle.code.specs.declared.ReadCode.{ReadCode}
-use Rattle.code.specs.declared.ReadList.{ReadList}
-use Rattle.code.specs.Vocabulary.Answers.{as_list, as_statement, arguments_of, refused_at, as_code, finished}
+use Rattle.code.specs.declared.Statement as Declared
+use Rattle.code.specs.Vocabulary.Answers.{no_arguments, gathered, said, as_code}
 use Rattle.code.specs.Statements.{Statement}
 
-module _ (s : Text) (q : Parsed (Statement Worked Worked)) (p : ℕ) where
-  pub code_bad : q ≡ bad p → refused_at p ≡ as_code (ended s q)
-  unfolding as_code ended
-  code_bad e = sym (ap (λ r. as_code (ended s r)) e)
-
-  pub code_got : (st : Statement Worked Worked) → q ≡ got p st → finished s p (as_statement st) (arguments_of st) ≡ as_code (ended s q)
-  code_got st e = reached (eqb p (length s)) refl ∙ sym (ap (λ r. as_code (ended s r)) e)
-    where
-      reached : (b : Bool) → eqb p (length s) ≡ b → finished s p (as_statement st) (arguments_of st) ≡ as_code (ended s (got p st))
-      reached true f = unfold finished as_code ended in rw (f, finished, as_code, ended) refl
-      reached false f = unfold finished as_code ended in rw (f, finished, as_code, ended) refl
-
--- one reading after another, and a reading put another way, where the first is known
+-- one reading after another, where the first is known
 module _ {A B : Type 0} (q : Parsed A) (p : ℕ) where
   pub after_got : (a : A) (k : ℕ → A → Parsed B) → q ≡ got p a → next q k ≡ k p a
   unfolding next
@@ -36,39 +27,87 @@ module _ {A B : Type 0} (q : Parsed A) (p : ℕ) where
   unfolding next
   after_bad k e = ap (λ r. next r k) e
 
-  mapped_is_got : (h : A → B) (a : A) → q ≡ got p a → mapped h q ≡ got p (h a)
-  unfolding mapped
-  mapped_is_got h a e = ap (mapped h) e
+-- a closing byte behind what was read
+module _ {A : Type 0} (b : ℕ) (s : Text) {q : Parsed A} {p end : ℕ} {a : A} (e : q ≡ got p a) where
+  pub closed_read : word (b ∷ []) s p ≡ got end tt → closed b s q ≡ got end a
+  unfolding closed
+  closed_read f = after_got q p a _ e ∙ ap (mapped (λ _. a)) f ∙ mapped_got _ end tt
 
-  mapped_is_bad : (h : A → B) → q ≡ bad p → mapped h q ≡ bad p
-  unfolding mapped
-  mapped_is_bad h e = ap (mapped h) e
+  pub closed_refused : word (b ∷ []) s p ≡ bad end → closed b s q ≡ bad end
+  unfolding closed
+  closed_refused f = after_got q p a _ e ∙ ap (mapped (λ _. a)) f ∙ mapped_bad _ end
 
 -- what the code answers for a form, by its first part: with more to read behind it, or put as a statement
-module _ (s : Text) {A : Type 0} {q : Parsed A} {p : ℕ} {r : ReadCode} where
-  pub next_refused : (k : ℕ → A → Parsed (Statement Worked Worked)) → q ≡ bad p → r ≡ refused_at p → r ≡ as_code (ended s (next q k))
-  next_refused k e f = f ∙ code_bad s _ p (after_bad q p k e)
+module _ {A : Type 0} {q : Parsed A} {p : ℕ} {r : Result (ℕ × (Declared.Statement × Arguments)) ℕ} where
+  pub next_refused : (k : ℕ → A → Parsed (Statement Worked Worked)) → q ≡ bad p → IsErrAnd r (λ e. e ≡ p) → r ≡ as_result (mapped said (next q k))
+  unfolding as_result
+  next_refused k e f = passed_on f ∙ sym (ap as_result (ap (mapped said) (after_bad q p k e) ∙ mapped_bad said p))
 
-  pub next_read : (k : ℕ → A → Parsed (Statement Worked Worked)) {a : A} → q ≡ got p a → r ≡ as_code (ended s (k p a)) → r ≡ as_code (ended s (next q k))
-  next_read k {a} e f = f ∙ sym (ap (λ x. as_code (ended s x)) (after_got q p a k e))
+  pub next_read : (k : ℕ → A → Parsed (Statement Worked Worked)) {a : A} → q ≡ got p a → r ≡ as_result (mapped said (k p a)) → r ≡ as_result (mapped said (next q k))
+  next_read k {a} e f = f ∙ sym (ap (λ x. as_result (mapped said x)) (after_got q p a k e))
 
-  pub put_refused : (h : A → Statement Worked Worked) → q ≡ bad p → r ≡ refused_at p → r ≡ as_code (ended s (mapped h q))
-  put_refused h e f = f ∙ code_bad s _ p (mapped_is_bad q p h e)
+  pub put_refused : (h : A → Statement Worked Worked) → q ≡ bad p → IsErrAnd r (λ e. e ≡ p) → r ≡ as_result (mapped said (mapped h q))
+  unfolding as_result
+  put_refused h e f = passed_on f ∙ sym (ap as_result (ap (λ x. mapped said (mapped h x)) e ∙ ap (mapped said) (mapped_bad h p) ∙ mapped_bad said p))
 
-  pub put_read : (h : A → Statement Worked Worked) {a : A} → q ≡ got p a → r ≡ finished s p (as_statement (h a)) (arguments_of (h a))
-      → r ≡ as_code (ended s (mapped h q))
-  put_read h {a} e f = f ∙ code_got s _ p (h a) (mapped_is_got q p h a e)
+  pub put_read : (h : A → Statement Worked Worked) {a : A} → q ≡ got p a → r ≡ Ok (p, said (h a)) → r ≡ as_result (mapped said (mapped h q))
+  unfolding as_result
+  put_read h {a} e f = f ∙ sym (ap as_result (ap (λ x. mapped said (mapped h x)) e ∙ ap (mapped said) (mapped_got h p a) ∙ mapped_got said p (h a)))
 
--- what a list's reader gives says whether the list was read
-pub list_bad : (q : Parsed Arguments) (r : ReadList) (p : ℕ) → r ≡ as_list q → r.end ≡ Word.Bad p → q ≡ bad p
-unfolding as_list
-list_bad (got at a) r p e f = let g : Word.Got at ≡ Word.Bad p = sym (ap (λ (x : ReadList). x.end) e) ∙ f in cc
-list_bad (bad at) r p e f = let g : Word.Bad at ≡ Word.Bad p = sym (ap (λ (x : ReadList). x.end) e) ∙ f in cc
+-- a form that is a word alone
+pub read_alone : (p : ℕ) (st : Statement Worked Worked) {r : Result (ℕ × (Declared.Statement × Arguments)) ℕ} → r ≡ Ok (p, said st) → r ≡ as_result (mapped said (got p st))
+unfolding as_result
+read_alone p st f = f ∙ sym (ap as_result (mapped_got said p st))
 
-pub list_got : (q : Parsed Arguments) (r : ReadList) (p : ℕ) → r ≡ as_list q → r.end ≡ Word.Got p → q ≡ got p r.arguments
-unfolding as_list
-list_got (got at a) r p e f =
-    let g : Word.Got at ≡ Word.Got p = sym (ap (λ (x : ReadList). x.end) e) ∙ f in
-    let h : r.arguments ≡ a = ap (λ (x : ReadList). x.arguments) e in
-    cc
-list_got (bad at) r p e f = let g : Word.Bad at ≡ Word.Got p = sym (ap (λ (x : ReadList). x.end) e) ∙ f in cc
+-- a form whose arguments stand last: the definition's list is gathered beside the statement
+module _ (make : List Worked → Statement Worked Worked) (q : Parsed (List Worked)) {p : ℕ} {r : Result (ℕ × (Declared.Statement × Arguments)) ℕ} where
+  pub listed_refused : mapped (gathered no_arguments) q ≡ bad p → IsErrAnd r (λ e. e ≡ p) → r ≡ as_result (mapped said (mapped make q))
+  listed_refused e f = put_refused make (go q e) f
+    where
+      go : (q : Parsed (List Worked)) → mapped (gathered no_arguments) q ≡ bad p → q ≡ bad p
+      go (got at es) e = let g : got at (gathered no_arguments es) ≡ bad p = sym (mapped_got _ at es) ∙ e in cc
+      go (bad at) e = let g : ◌≡◌ {A = Parsed Arguments} (bad at) (bad p) = sym (mapped_bad _ at) ∙ e in let same : at ≡ p = cc in ap bad same
+
+  pub listed_read : {st : Declared.Statement} {es : Arguments} → ((ws : List Worked) → said (make ws) ≡ (st, gathered no_arguments ws))
+      → mapped (gathered no_arguments) q ≡ got p es → r ≡ Ok (p, (st, es)) → r ≡ as_result (mapped said (mapped make q))
+  listed_read {st} {es} same e f = go q e
+    where
+      go : (q : Parsed (List Worked)) → mapped (gathered no_arguments) q ≡ got p es → r ≡ as_result (mapped said (mapped make q))
+      go (got at ws) e =
+          let g : got at (gathered no_arguments ws) ≡ got p es = sym (mapped_got _ at ws) ∙ e in
+          let place : at ≡ p = cc in
+          let what : gathered no_arguments ws ≡ es = cc in
+          let put : r ≡ Ok (at, said (make ws)) = rw (same ws, what, place) f in
+          put_read make refl put
+      go (bad at) e = let g : bad at ≡ got p es = sym (mapped_bad _ at) ∙ e in cc
+
+-- a whole code value: what was read must reach the end of the text
+module _ {p : ℕ} where
+  code_of_got : (q : Parsed (Statement Worked Worked)) {x : Declared.Statement × Arguments} → mapped said q ≡ got p x → (st : Statement Worked Worked) × (q ≡ got p st) × (said st ≡ x)
+  code_of_got (got at st) {x} e =
+      let g : got at (said st) ≡ got p x = sym (mapped_got said at st) ∙ e in
+      let place : at ≡ p = cc in
+      (st, ap (λ n. got n st) place, (cc))
+  code_of_got (bad at) {x} e = let g : bad at ≡ got p x = sym (mapped_bad said at) ∙ e in cc
+
+  code_of_bad : (q : Parsed (Statement Worked Worked)) → mapped said q ≡ bad p → q ≡ bad p
+  code_of_bad (got at st) e = let g : got at (said st) ≡ bad p = sym (mapped_got said at st) ∙ e in cc
+  code_of_bad (bad at) e = let g : ◌≡◌ {A = Parsed (Declared.Statement × Arguments)} (bad at) (bad p) = sym (mapped_bad said at) ∙ e in let same : at ≡ p = cc in ap bad same
+
+  module _ (s : Text) (q : Parsed (Statement Worked Worked)) where
+    pub code_bad : q ≡ bad p → as_code (ended s q) ≡ Err p
+    unfolding as_code ended
+    code_bad e = ap (λ r. as_code (ended s r)) e
+
+    pub code_refused : mapped said q ≡ bad p → as_code (ended s q) ≡ Err p
+    code_refused e = code_bad (code_of_bad q e)
+
+    pub code_short : {x : Declared.Statement × Arguments} → mapped said q ≡ got p x → (p ≡ length s → ⊥) → as_code (ended s q) ≡ Err p
+    code_short e n =
+        let t = code_of_got q e in
+        ap (λ r. as_code (ended s r)) t.1 ∙ (unfold ended as_code in rw (ne_eqb p (length s) n, ended, as_code) refl)
+
+    pub code_whole : {x : Declared.Statement × Arguments} → mapped said q ≡ got p x → p ≡ length s → as_code (ended s q) ≡ Ok x
+    code_whole e n =
+        let t = code_of_got q e in
+        ap (λ r. as_code (ended s r)) t.1 ∙ (unfold ended as_code in rw (eq-eqb p (length s) n, ended, as_code) (ap (λ y. Ok y) t.2))

@@ -1,7 +1,7 @@
 -- The form of a code value, by the tests that the code makes. Assumes nothing.
+use Rattle.std.specs.Prelude.{None, Some}
 use Prim.Native.Nat.{ℕ}
-use mathlib.Core.Option.{Option, none, some}
-use mathlib.Core.Path.{◌≡◌, refl}
+use mathlib.Core.Path.{◌≡◌}
 use borrow.Author.Tests.{eq-eqb, ne_eqb}
 use Rattle.terms.specs.declared.Limits.{Limits}
 use Rattle.terms.specs.Bytes.{Text, byte_at}
@@ -9,13 +9,11 @@ use Rattle.terms.specs.Expressions.{Reading}
 use Rattle.terms.specs.Guards.{GuardReading}
 use Rattle.terms.specs.Parsed.{bad, next, word, ended}
 use Rattle.code.specs.declared.Form.{Form}
-use Rattle.code.specs.declared.FormFound.TheVariants as Form'
-use Rattle.code.specs.Vocabulary.Answers.{as_form}
 use Rattle.code.specs.Reader.{beginning, initials, form_of, word_of, rest, statement}
 
 -- a byte that begins none of the forms
 pub beginning_none : (b : ℕ) → (b ≡ 110 → ⊥) → (b ≡ 99 → ⊥) → (b ≡ 103 → ⊥) → (b ≡ 97 → ⊥) → (b ≡ 105 → ⊥) → (b ≡ 101 → ⊥) → (b ≡ 102 → ⊥) → (b ≡ 119 → ⊥) → (b ≡ 111 → ⊥) → (b ≡ 114 → ⊥)
-    → beginning b initials ≡ none
+    → beginning b initials ≡ None
 unfolding beginning
 beginning_none b n c g a i e f w o r =
     rw (ne_eqb b 110 n, ne_eqb b 99 c, ne_eqb b 103 g, ne_eqb b 97 a, ne_eqb b 105 i, ne_eqb b 101 e, ne_eqb b 102 f, ne_eqb b 119 w, ne_eqb b 111 o, ne_eqb b 114 r, beginning)
@@ -25,32 +23,21 @@ module _ (s : Text) where
   unfolding form_of
   form_other n = rw (ne_eqb (byte_at s 0) 115 n, form_of)
 
-  pub form_skip : byte_at s 0 ≡ 115 → byte_at s 1 ≡ 107 → form_of s ≡ some Form.Skip
+  pub form_skip : byte_at s 0 ≡ 115 → byte_at s 1 ≡ 107 → form_of s ≡ Some Form.Skip
   unfolding form_of
   form_skip e f = rw (eq-eqb (byte_at s 0) 115 e, eq-eqb (byte_at s 1) 107 f, form_of)
 
-  pub form_set : byte_at s 0 ≡ 115 → (byte_at s 1 ≡ 107 → ⊥) → form_of s ≡ some Form.Set
+  pub form_set : byte_at s 0 ≡ 115 → (byte_at s 1 ≡ 107 → ⊥) → form_of s ≡ Some Form.Set
   unfolding form_of
   form_set e n = rw (eq-eqb (byte_at s 0) 115 e, ne_eqb (byte_at s 1) 107 n, form_of)
 
--- a form that was found, or none
-pub form_some : (o : Option Form) (f : Form) → as_form o ≡ Form'.Is f → o ≡ some f
-unfolding as_form
-form_some none f e = cc
-form_some (some g) f e = cc
-
-pub form_none : (o : Option Form) → as_form o ≡ Form'.Nothing → o ≡ none
-unfolding as_form
-form_none none e = refl
-form_none (some g) e = cc
-
 -- a code value, by its form
 module _ {A G : Type 0} (R : Reading A) (Q : GuardReading A G) (lim : Limits) (classes : ℕ) (s : Text) where
-  pub statement_none : form_of s ≡ none → statement R Q lim classes s ≡ bad 0
+  pub statement_none : form_of s ≡ None → statement R Q lim classes s ≡ bad 0
   unfolding statement
   statement_none e = rw (e, statement)
 
-  pub statement_some : (f : Form) → form_of s ≡ some f
+  pub statement_some : (f : Form) → form_of s ≡ Some f
       → statement R Q lim classes s ≡ ended s (next (word (word_of f) s 0) (λ at _. rest R Q lim classes s f at))
   unfolding statement
   statement_some f e = rw (e, statement)

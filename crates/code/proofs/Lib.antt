@@ -6,7 +6,6 @@ pub mod Forms
 pub mod Gathering
 pub mod Going
 pub mod Jumps
-pub mod Listing
 pub mod Matching
 pub mod NewCounts
 pub mod Open

@@ -1,8 +1,8 @@
 -- When lines are balanced, when a line fits another, and what a search for a partner makes of it. Assumes nothing.
+use Rattle.std.specs.Prelude.{Option, None, Some}
 use Prim.Native.Nat.{ℕ, suc, ◌+◌, ◌-◌, ◌≤◌, ◌<◌}
 use mathlib.Core.Bool.{Bool, true, false, ◌&&◌}
 use mathlib.Core.List.{List, [], ◌∷◌, ◌++◌}
-use mathlib.Core.Option.{Option, none, some}
 use mathlib.Core.Path.{◌≡◌, refl, ap, ◌∙◌}
 use native.Mathlib.Numerals.{add-one}
 use native.Mathlib.Omega.{arith}
@@ -15,25 +15,25 @@ use Rattle.code.specs.Partners.{same_block, fits, lines_between, partners, first
 use Rattle.code.proofs.Stacks.{false_true, all_below_lem}
 
 -- lines whose blocks are all closed, and lines that leave one open
-pub balanced_yes : (ls : List Shape) → through_all ls [] ≡ some [] → balanced ls ≡ true
+pub balanced_yes : (ls : List Shape) → through_all ls [] ≡ Some [] → balanced ls ≡ true
 unfolding balanced
 balanced_yes ls e = rw e (unfold all_closed in refl)
 
-pub balanced_no : (ls : List Shape) (b : Block) (bs : List Block) → through_all ls [] ≡ some (b ∷ bs) → balanced ls ≡ false
+pub balanced_no : (ls : List Shape) (b : Block) (bs : List Block) → through_all ls [] ≡ Some (b ∷ bs) → balanced ls ≡ false
 unfolding balanced
 balanced_no ls b bs e = rw e (unfold all_closed in refl)
 
-pub balanced_closed : (ls : List Shape) → balanced ls ≡ true → through_all ls [] ≡ some []
+pub balanced_closed : (ls : List Shape) → balanced ls ≡ true → through_all ls [] ≡ Some []
 unfolding balanced all_closed
 balanced_closed ls e = closed (through_all ls []) e
   where
-    closed : (o : Option (List Block)) → all_closed o ≡ true → o ≡ some []
-    closed none e = absurd (false_true e)
-    closed (some []) e = refl
-    closed (some (b ∷ bs)) e = absurd (false_true e)
+    closed : (o : Option (List Block)) → all_closed o ≡ true → o ≡ Some []
+    closed None e = absurd (false_true e)
+    closed (Some []) e = refl
+    closed (Some (b ∷ bs)) e = absurd (false_true e)
 
 -- lines that close a block which was open before them are not balanced
-pub not_balanced : (ls : List Shape) (b : Block) (bs : List Block) → through_all ls (b ∷ bs) ≡ some [] → balanced ls ≡ false
+pub not_balanced : (ls : List Shape) (b : Block) (bs : List Block) → through_all ls (b ∷ bs) ≡ Some [] → balanced ls ≡ false
 not_balanced ls b bs e = go (balanced ls) refl
   where
     go : (t : Bool) → balanced ls ≡ t → t ≡ false
@@ -42,15 +42,15 @@ not_balanced ls b bs e = go (balanced ls) refl
 
 -- one line fits another, or it opens nothing, or the other closes nothing
 module _ (l m : Shape) where
-  pub fits_same : (b : Block) → opening l ≡ some b → closing m ≡ some b → fits l m ≡ true
+  pub fits_same : (b : Block) → opening l ≡ Some b → closing m ≡ Some b → fits l m ≡ true
   unfolding fits same_block
   fits_same b e f = rw (e, f, same_block) (eq-eqb (rank b) (rank b) refl)
 
-  pub fits_open : opening l ≡ none → fits l m ≡ false
+  pub fits_open : opening l ≡ None → fits l m ≡ false
   unfolding fits same_block
   fits_open e = rw (e, same_block)
 
-  pub fits_close : (b : Block) → opening l ≡ some b → closing m ≡ none → fits l m ≡ false
+  pub fits_close : (b : Block) → opening l ≡ Some b → closing m ≡ None → fits l m ≡ false
   unfolding fits same_block
   fits_close b e f = rw (e, f, same_block)
 
@@ -73,7 +73,7 @@ module _ (ls : List Shape) (i j : ℕ) where
 
 -- a search by what its test says at a place
 module _ (test : ℕ → Bool) (more j : ℕ) where
-  pub first_yes : test j ≡ true → first_from test (suc more) j ≡ some j
+  pub first_yes : test j ≡ true → first_from test (suc more) j ≡ Some j
   unfolding first_from
   first_yes e = rw (e, first_from)
 
@@ -82,7 +82,7 @@ module _ (test : ℕ → Bool) (more j : ℕ) where
   first_no e = rw (e, first_from)
 
 module _ (test : ℕ → Bool) (j : ℕ) where
-  pub last_yes : test j ≡ true → last_below test (suc j) ≡ some j
+  pub last_yes : test j ≡ true → last_below test (suc j) ≡ Some j
   unfolding last_below
   last_yes e = rw (e, last_below)
 

@@ -1,9 +1,9 @@
 -- A `new` names one of the classes, and has at most one argument more than its text has bytes. Assumes nothing.
+use Rattle.std.specs.Prelude.{Option, None, Some}
 use Prim.Native.Nat.{ℕ, ◌+◌, ◌-◌, ◌≤◌, ◌<◌}
 use Prim.Native.Char.{code}
 use mathlib.Core.Bool.{Bool, true, false}
 use mathlib.Core.List.{List, [], ◌∷◌}
-use mathlib.Core.Option.{Option, none, some}
 use mathlib.Core.Path.{◌≡◌, refl, ap}
 use native.Mathlib.Omega.{arith}
 use lib.Dec.{eqb}
@@ -15,9 +15,8 @@ use Rattle.terms.specs.Guards.{GuardReading}
 use Rattle.terms.specs.Parsed.{Parsed, got, bad, next, mapped, word, ended}
 use Rattle.terms.proofs.Gives.{Gives, gives_of, gives_then, gives_mapped, gives_any, gives_next, gives_decimal, gives_ended, gives_joining}
 use Rattle.code.specs.declared.Form.{Form}
-use Rattle.code.specs.Statements.{new_of}
+use Rattle.code.specs.Statements.{new_of, Statement, skip, set, new, call, get, await, if, else, fi, while, od, return}
 use Rattle.code.specs.Reader.{word_of, form_of, comma, operand, listed, arguments, rest, statement}
-use Rattle.code.specs.Statements.{Statement, skip, set, new, call, get, await, if, else, fi, while, od, return}
 
 module _ {A G : Type 0} (R : Reading A) (Q : GuardReading A G) (lim : Limits) (classes : ℕ) (s : Text) where
   gives_listed : (more at : ℕ) → Gives (λ (es : List A). length es ≤ more + 1) (listed R Q lim classes s more at)
@@ -40,12 +39,12 @@ module _ {A G : Type 0} (R : Reading A) (Q : GuardReading A G) (lim : Limits) (c
 
   -- a statement that is a `new` names one of the classes, and has at most one argument more than the text has bytes
   abbrev Small : Statement A G → Type 0
-  Small st = (m : ℕ × ℕ) → new_of st ≡ some m → (m.0 ≤ classes - 1) × (m.1 ≤ length s + 1)
+  Small st = (m : ℕ × ℕ) → new_of st ≡ Some m → (m.0 ≤ classes - 1) × (m.1 ≤ length s + 1)
 
-  no_new : (st : Statement A G) → new_of st ≡ none → Small st
+  no_new : (st : Statement A G) → new_of st ≡ None → Small st
   no_new st e m f = absurd (let z : ◌≡◌ {A = ℕ} 0 1 = cc in omega arith)
 
-  one_new : (st : Statement A G) (k l : ℕ) → new_of st ≡ some (k, l) → k ≤ classes - 1 → l ≤ length s + 1 → Small st
+  one_new : (st : Statement A G) (k l : ℕ) → new_of st ≡ Some (k, l) → k ≤ classes - 1 → l ≤ length s + 1 → Small st
   one_new st k l e b h m f =
       let g : (k, l) ≡ m = cc in
       let y : k ≡ m.0 = ap (λ (x : ℕ × ℕ). x.0) g in
@@ -53,7 +52,7 @@ module _ {A G : Type 0} (R : Reading A) (Q : GuardReading A G) (lim : Limits) (c
       (omega arith, omega arith)
 
   -- a form that is no `new`
-  gives_none : {B : Type 0} (f : B → Statement A G) (q : Parsed B) → ((b : B) → new_of (f b) ≡ none) → Gives Small (mapped f q)
+  gives_none : {B : Type 0} (f : B → Statement A G) (q : Parsed B) → ((b : B) → new_of (f b) ≡ None) → Gives Small (mapped f q)
   gives_none {B} f q e = gives_mapped (λ _. Unit) Small f q (λ b _. no_new (f b) (e b)) (gives_any q)
 
   gives_rest : (f : Form) (at : ℕ) → Gives Small (rest R Q lim classes s f at)
@@ -77,13 +76,13 @@ module _ {A G : Type 0} (R : Reading A) (Q : GuardReading A G) (lim : Limits) (c
   gives_statement = go (form_of s)
     where
       go : (o : Option Form)
-          → Gives Small (elim o [ none ↦ bad 0 | some f ↦ ended s (next (word (word_of f) s 0) (λ at _. rest R Q lim classes s f at)) ])
-      go none = tt
-      go (some f) = gives_ended _ s _ (gives_next _ (word (word_of f) s 0) _ (λ at _. gives_rest f at))
+          → Gives Small (elim o [ None ↦ bad 0 | Some f ↦ ended s (next (word (word_of f) s 0) (λ at _. rest R Q lim classes s f at)) ])
+      go None = tt
+      go (Some f) = gives_ended _ s _ (gives_next _ (word (word_of f) s 0) _ (λ at _. gives_rest f at))
 
 -- a `new` that was read: its class, and how many arguments it has
 module _ {A G : Type 0} (R : Reading A) (Q : GuardReading A G) (lim : Limits) (classes : ℕ) (s : Text) (p : ℕ) (st : Statement A G) (n : ℕ × ℕ)
-    (e : statement R Q lim classes s ≡ got p st) (f : new_of st ≡ some n) where
+    (e : statement R Q lim classes s ≡ got p st) (f : new_of st ≡ Some n) where
   small : (n.0 ≤ classes - 1) × (n.1 ≤ length s + 1)
   small = gives_of _ _ p st e (gives_statement R Q lim classes s) n f
 

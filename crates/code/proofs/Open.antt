@@ -7,17 +7,16 @@ use Rattle.code.specs.Vocabulary.Creating
 use Rattle.code.specs.Vocabulary.OpenBlocks
 use Rattle.code.specs.Partners
 use Rattle.code.specs.Reader
-use Rattle.code.specs.Vocabulary.Readers
 use Rattle.code.specs.Statements
 use Rattle.terms.proofs.Open.{terms_open}
 
 unfoldable pub code_open : Unit {0}
-unfolding terms_open Answers.as_form Answers.no_arguments Answers.with_one Answers.gathered Answers.as_list Answers.as_statement
-    Answers.arguments_of Answers.refused_at Answers.as_code Answers.finished Blocks.shape_of Blocks.shape_number Shapes.shape_at
+unfolding terms_open Answers.no_arguments Answers.with_one Answers.gathered Answers.as_statement
+    Answers.arguments_of Answers.as_code Blocks.shape_of Blocks.shape_number Shapes.shape_at
     Shapes.shapes_in Blocks.is_shape Blocks.rank Blocks.closing Blocks.opening Blocks.without Blocks.with Blocks.through
     Blocks.through_all Blocks.all_closed Blocks.balanced Counting.present Counting.counted_on Counting.onward Counting.backward
-    Statements.new_of Creating.new_said Creating.as_new OpenBlocks.block_digit OpenBlocks.packed_blocks OpenBlocks.as_blocks OpenBlocks.shape_said
+    Statements.new_of Creating.new_said OpenBlocks.block_digit OpenBlocks.packed_blocks OpenBlocks.as_blocks OpenBlocks.shape_said
     Partners.same_block Partners.fits Partners.lines_between Partners.partners Partners.first_from Partners.last_below Partners.or_end
     Partners.ahead Partners.behind Partners.goes_from Partners.goes_to Reader.word_of Reader.beginning Reader.form_of Reader.comma
-    Reader.operand Reader.listed Reader.arguments Reader.target Reader.rest Reader.statement Readers.listed_read Statements.map_statement
+    Reader.operand Reader.listed Reader.arguments Reader.target Reader.rest Reader.statement Statements.map_statement
 code_open = tt

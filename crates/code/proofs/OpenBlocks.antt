@@ -1,19 +1,17 @@
 -- Open blocks as one number: how many there are, and which is the innermost. Assumes nothing.
-use Prim.Native.Nat.{ℕ, zero, suc, ◌+◌, ◌-◌, ◌*◌, ◌^◌, ◌/◌, ◌%◌, ◌≤◌, ◌<◌}
+use Rattle.std.specs.Prelude.{Option, None, Some}
+use Prim.Native.Nat.{ℕ, zero, suc, ◌+◌, ◌*◌, ◌^◌, ◌/◌, ◌%◌, ◌≤◌, ◌<◌}
 use mathlib.Core.Bool.{Bool, true, false}
 use mathlib.Core.List.{List, [], ◌∷◌}
-use mathlib.Core.Option.{Option, none, some}
 use mathlib.Core.Path.{◌≡◌, refl, sym, ap, ◌∙◌}
 use native.Mathlib.Nat.{pow-succ', one-le-pow}
 use native.Mathlib.Omega.{arith}
 use borrow.Author.Tests.{eq-eqb, ne_eqb, leb-true, leb-false, lt-ltb, le-ltb}
 use lib.Dec.{eqb, ltb, leb}
 use lib.ListN.{length}
-use Rattle.whole.specs.declared.Worked.{Worked}
-use Rattle.code.specs.declared.BlocksAfter.TheVariants as After
-use Rattle.code.specs.declared.Shape.TheVariants as Shape
+use Rattle.whole.specs.Whole.{Worked}
 use Rattle.code.specs.Vocabulary.Answers.{as_statement}
-use Rattle.code.specs.Blocks.{Block, until_else, until_fi, until_od, shape_of, rank, opening, closing, without, with, through}
+use Rattle.code.specs.Blocks.{Block, until_else, until_fi, until_od, shape_of, rank, without}
 use Rattle.code.specs.Vocabulary.OpenBlocks.{block_digit, packed_blocks, as_blocks, shape_said}
 use Rattle.code.specs.Statements.{Statement, skip, set, new, call, get, await, if, else, fi, while, od, return, map_statement}
 
@@ -83,92 +81,53 @@ module _ (bs : List Block) where
   fits_packed h = leb-true (length bs) 8 (sym packed_deep ∙ lt-ltb _ _ h)
 
 -- a block closes if it is the innermost
-closes_none : (b : Block) → without (some b) [] ≡ none
+closes_none : (b : Block) → without (Some b) [] ≡ None
 unfolding without
 closes_none b = refl
 
 module _ (b c : Block) (bs : List Block) where
-  closes_same : block_digit b ≡ block_digit c → without (some b) (c ∷ bs) ≡ some bs
+  closes_same : block_digit b ≡ block_digit c → without (Some b) (c ∷ bs) ≡ Some bs
   unfolding without block_digit
   closes_same e = rw (eq-eqb (rank b) (rank c) (omega arith), without)
 
-  closes_other : (block_digit b ≡ block_digit c → ⊥) → without (some b) (c ∷ bs) ≡ none
+  closes_other : (block_digit b ≡ block_digit c → ⊥) → without (Some b) (c ∷ bs) ≡ None
   unfolding without block_digit
   closes_other n = rw (ne_eqb (rank b) (rank c) (λ e. n (ap (◌+ 1) e)), without)
 
-as_some : (bs : List Block) → as_blocks (some bs) ≡ After.Open (packed_blocks bs)
+as_some : (bs : List Block) → as_blocks (Some bs) ≡ Some (packed_blocks bs)
 unfolding as_blocks
 as_some bs = refl
 
-as_none : as_blocks none ≡ After.Unmatched
+as_none : as_blocks None ≡ None
 unfolding as_blocks
 as_none = refl
 
 -- what the code gives tells whether the line can stand there, and the blocks after it
-pub unmatched_told : (o : Option (List Block)) → as_blocks o ≡ After.Unmatched → o ≡ none
+pub unmatched_told : (o : Option (List Block)) → as_blocks o ≡ None → o ≡ None
 unfolding as_blocks
-unmatched_told none e = refl
-unmatched_told (some bs) e = cc
+unmatched_told None e = refl
+unmatched_told (Some bs) e = cc
 
-pub open_told : (o : Option (List Block)) (n : ℕ) → as_blocks o ≡ After.Open n → (bs : List Block) × (o ≡ some bs) × (n ≡ packed_blocks bs)
+pub open_told : (o : Option (List Block)) (n : ℕ) → as_blocks o ≡ Some n → (bs : List Block) × (o ≡ Some bs) × (n ≡ packed_blocks bs)
 unfolding as_blocks
-open_told none n e = absurd (let z : ◌≡◌ {A = ℕ} 0 1 = cc in omega arith)
-open_told (some bs) n e = (bs, refl, (cc))
+open_told None n e = absurd (let z : ◌≡◌ {A = ℕ} 0 1 = cc in omega arith)
+open_told (Some bs) n e = (bs, refl, (cc))
 
 -- what the code works out for a block that is opened, one that is closed, and one that is not the innermost
 module _ (b : Block) (d n : ℕ) (e : d ≡ block_digit b) where
-  pub blocks_opened : (bs : List Block) → n ≡ packed_blocks bs → After.Open (d + 4 * n) ≡ as_blocks (some (b ∷ bs))
-  blocks_opened bs f = ap After.Open (omega (arith, packed_more b bs)) ∙ sym (as_some (b ∷ bs))
+  pub blocks_opened : (bs : List Block) → n ≡ packed_blocks bs → d + 4 * n ≡ packed_blocks (b ∷ bs)
+  blocks_opened bs f = omega (arith, packed_more b bs)
 
-  pub blocks_closed : (bs : List Block) → n ≡ packed_blocks bs → n % 4 ≡ d → After.Open (n / 4) ≡ as_blocks (without (some b) bs)
+  pub blocks_closed : (bs : List Block) → n ≡ packed_blocks bs → n % 4 ≡ d → Some (n / 4) ≡ as_blocks (without (Some b) bs)
   blocks_closed [] f h = absurd (omega (arith, packed_nil, digit_some b))
   blocks_closed (c ∷ bs) f h =
-      ap After.Open (ap (◌/ 4) f ∙ packed_left c bs)
+      ap Some (ap (◌/ 4) f ∙ packed_left c bs)
       ∙ sym (ap as_blocks (closes_same b c bs (sym e ∙ sym h ∙ ap (◌% 4) f ∙ packed_last c bs)) ∙ as_some bs)
 
-  pub blocks_unmatched : (bs : List Block) → n ≡ packed_blocks bs → (n % 4 ≡ d → ⊥) → After.Unmatched ≡ as_blocks (without (some b) bs)
+  pub blocks_unmatched : (bs : List Block) → n ≡ packed_blocks bs → (n % 4 ≡ d → ⊥) → None ≡ as_blocks (without (Some b) bs)
   blocks_unmatched [] f h = sym (ap as_blocks (closes_none b) ∙ as_none)
   blocks_unmatched (c ∷ bs) f h =
       sym (ap as_blocks (closes_other b c bs (λ g. h (ap (◌% 4) f ∙ packed_last c bs ∙ sym g ∙ sym e))) ∙ as_none)
-
--- a line that opens nothing leaves what is left
-only_closes : (o : Option (List Block)) → elim o [ none ↦ none | some after ↦ some after ] ≡ o
-only_closes none = refl
-only_closes (some after) = refl
-
--- the blocks after a line of each shape
-module _ (bs : List Block) where
-  pub after_if : through Shape.If bs ≡ some (until_else ∷ bs)
-  unfolding through closing opening without with
-  after_if = refl
-
-  pub after_while : through Shape.While bs ≡ some (until_od ∷ bs)
-  unfolding through closing opening without with
-  after_while = refl
-
-  pub after_fi : through Shape.Fi bs ≡ without (some until_fi) bs
-  unfolding through closing opening with
-  after_fi = only_closes (without (some until_fi) bs)
-
-  pub after_od : through Shape.Od bs ≡ without (some until_od) bs
-  unfolding through closing opening with
-  after_od = only_closes (without (some until_od) bs)
-
--- an `else` exchanges the innermost block
-module _ (n : ℕ) where
-  pub else_matched : (bs : List Block) → n ≡ packed_blocks bs → n % 4 ≡ 1 → After.Open (n - 1 + 2) ≡ as_blocks (through Shape.Else bs)
-  unfolding through closing opening without with block_digit rank packed_blocks as_blocks
-  else_matched [] f h = absurd (omega arith)
-  else_matched (until_else ∷ bs) f h = ap After.Open (omega arith)
-  else_matched (until_fi ∷ bs) f h = absurd (omega arith)
-  else_matched (until_od ∷ bs) f h = absurd (omega arith)
-
-  pub else_unmatched : (bs : List Block) → n ≡ packed_blocks bs → (n % 4 ≡ 1 → ⊥) → After.Unmatched ≡ as_blocks (through Shape.Else bs)
-  unfolding through closing opening without with block_digit rank packed_blocks as_blocks
-  else_unmatched [] f h = refl
-  else_unmatched (until_else ∷ bs) f h = absurd (h (omega arith))
-  else_unmatched (until_fi ∷ bs) f h = refl
-  else_unmatched (until_od ∷ bs) f h = refl
 
 -- what a line is, by what the code read of it
 pub shape_said_lem : (st : Statement Worked Worked) → shape_said (as_statement st) ≡ shape_of st

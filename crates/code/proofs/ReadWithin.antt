@@ -1,9 +1,9 @@
 -- Whatever code value is read: its variables are below their limits, its decimals, class, method and arguments in range. Assumes nothing.
+use Rattle.std.specs.Prelude.{Option, None, Some}
 use Prim.Native.Nat.{ℕ, ◌+◌, ◌-◌, ◌≤◌, ◌<◌}
 use Prim.Native.Char.{code}
 use mathlib.Core.Bool.{Bool, true, false}
 use mathlib.Core.List.{List, [], ◌∷◌, ◌++◌}
-use mathlib.Core.Option.{Option, none, some}
 use native.Mathlib.Omega.{arith}
 use lib.Dec.{eqb}
 use lib.ListN.{length, length-append}
@@ -89,6 +89,6 @@ module _ (lim : Limits) (classes : ℕ) (s : Text) where
     gives_statement = go (form_of s)
       where
         go : (o : Option Form)
-            → Gives (CodeWithin lim classes) (elim o [ none ↦ bad 0 | some f ↦ ended s (next (word (word_of f) s 0) (λ at _. rest trees guard_trees lim classes s f at)) ])
-        go none = tt
-        go (some f) = gives_ended _ s _ (gives_next _ (word (word_of f) s 0) _ (λ at _. gives_rest f at))
+            → Gives (CodeWithin lim classes) (elim o [ None ↦ bad 0 | Some f ↦ ended s (next (word (word_of f) s 0) (λ at _. rest trees guard_trees lim classes s f at)) ])
+        go None = tt
+        go (Some f) = gives_ended _ s _ (gives_next _ (word (word_of f) s 0) _ (λ at _. gives_rest f at))

@@ -1,10 +1,10 @@
 -- A map which respects the operations respects the reading of code values: the statement read with its values worked out is the statement
 -- of the trees read, worked out. Assumes nothing.
+use Rattle.std.specs.Prelude.{Option, None, Some}
 use Prim.Native.Nat.{ℕ, ◌+◌}
 use Prim.Native.Char.{code}
 use mathlib.Core.Bool.{Bool, true, false}
 use mathlib.Core.List.{List, [], ◌∷◌, ◌++◌, map}
-use mathlib.Core.Option.{Option, none, some}
 use mathlib.Core.Path.{◌≡◌, refl, sym, ap, ◌∙◌}
 use lib.Dec.{eqb}
 use lib.ListN.{length}
@@ -88,10 +88,10 @@ module _ {A B G H : Type 0} {R : Reading A} {S : Reading B} {Q : GuardReading A 
   unfolding statement
   respects_statement = go (form_of s)
     where
-      go : (o : Option Form) → mapped (map_statement h k) (elim o [ none ↦ bad 0 | some f ↦ ended s (next (word (word_of f) s 0) (λ at _. rest R Q lim classes s f at)) ])
-          ≡ elim o [ none ↦ bad 0 | some f ↦ ended s (next (word (word_of f) s 0) (λ at _. rest S P lim classes s f at)) ]
-      go none = mapped_bad _ 0
-      go (some f) =
+      go : (o : Option Form) → mapped (map_statement h k) (elim o [ None ↦ bad 0 | Some f ↦ ended s (next (word (word_of f) s 0) (λ at _. rest R Q lim classes s f at)) ])
+          ≡ elim o [ None ↦ bad 0 | Some f ↦ ended s (next (word (word_of f) s 0) (λ at _. rest S P lim classes s f at)) ]
+      go None = mapped_bad _ 0
+      go (Some f) =
           respects_ended (map_statement h k) s _
           ∙ ap (ended s) (mapped_next (map_statement h k) (word (word_of f) s 0) _ ∙ next_same (word (word_of f) s 0) _ _ (λ at _. respects_rest f at))
 

@@ -1,15 +1,15 @@
 -- What the code's answer for a code value says of the tree that the text is: the place of its refusal, or the tree's shape, the class that
 -- it makes an object of, and its arguments. Assumes nothing.
+use Rattle.std.specs.Prelude.{Option, None, Some, Result, Ok, Err}
 use Prim.Native.Nat.{ℕ, ◌+◌}
 use mathlib.Core.Bool.{Bool, true, false}
 use mathlib.Core.List.{List, [], ◌∷◌}
-use mathlib.Core.Option.{Option, none, some}
 use mathlib.Core.Path.{◌≡◌, refl, sym, ap, ◌∙◌}
 use native.Mathlib.Omega.{arith}
 use borrow.Author.Tests.{eqb-true}
 use lib.Dec.{eqb}
 use lib.ListN.{length, length-map}
-use Rattle.whole.specs.declared.Worked.{Worked}
+use Rattle.whole.specs.Whole.{Worked}
 use Rattle.layout.specs.Layout.{Cells}
 use Rattle.terms.specs.declared.Around.{Around}
 use Rattle.terms.specs.declared.Limits.{Limits}
@@ -22,18 +22,14 @@ use Rattle.terms.specs.Trees.{trees, guard_trees}
 use Rattle.terms.specs.Values.{value_of, guard_of}
 use Rattle.code.specs.declared.Arguments.{Arguments}
 use Rattle.code.specs.declared.Form.{Form}
-use Rattle.code.specs.declared.NewFound.TheVariants as New
-use Rattle.code.specs.declared.ReadCode.{ReadCode}
-use Rattle.code.specs.declared.ReadStatement.TheVariants as Read
 use Rattle.code.specs.declared.Statement as Declared
-use Rattle.code.specs.Vocabulary.Answers.{no_arguments, with_one, gathered, as_statement, arguments_of, refused_at, as_code}
+use Rattle.code.specs.Vocabulary.Answers.{no_arguments, with_one, gathered, as_statement, arguments_of, as_code}
 use Rattle.code.specs.Blocks.{shape_of}
-use Rattle.code.specs.Vocabulary.Creating.{new_said, as_new}
-use Rattle.code.specs.Statements.{new_of}
+use Rattle.code.specs.Vocabulary.Creating.{new_said}
+use Rattle.code.specs.Statements.{new_of, Statement, Code, skip, set, new, call, get, await, if, else, fi, while, od, return, map_statement}
 use Rattle.code.specs.Vocabulary.OpenBlocks.{shape_said}
 use Rattle.code.specs.Reader.{word_of, form_of, rest, statement}
 use Rattle.code.specs.Vocabulary.Readers.{statement_read}
-use Rattle.code.specs.Statements.{Statement, Code, skip, set, new, call, get, await, if, else, fi, while, od, return, map_statement}
 use Rattle.code.proofs.Gathering.{one_more_lem}
 use Rattle.code.proofs.OpenBlocks.{shape_said_lem, shape_mapped}
 use Rattle.code.proofs.Respect.{statement_of_tree}
@@ -55,7 +51,7 @@ pub new_said_lem : (st : Statement Worked Worked) → new_said (as_statement st)
 unfolding new_said new_of as_statement arguments_of
 new_said_lem skip = refl
 new_said_lem (set x a) = refl
-new_said_lem (new x k es) = ap (λ n. some (k, n)) (gathered_count es)
+new_said_lem (new x k es) = ap (λ n. Some (k, n)) (gathered_count es)
 new_said_lem (call x a j es) = refl
 new_said_lem (get x y) = refl
 new_said_lem (await g) = refl
@@ -66,22 +62,11 @@ new_said_lem (while a) = refl
 new_said_lem od = refl
 new_said_lem (return a) = refl
 
--- what the code gives for the class and the number of arguments tells them
-pub nothing_told : (o : Option (ℕ × ℕ)) → as_new o ≡ New.Nothing → o ≡ none
-unfolding as_new
-nothing_told none e = refl
-nothing_told (some m) e = cc
-
-pub is_told : (o : Option (ℕ × ℕ)) (k n : ℕ) → as_new o ≡ New.Is k n → o ≡ some (k, n)
-unfolding as_new
-is_told none k n e = cc
-is_told (some (j, m)) k n e = cc
-
 pub new_mapped : {A B G H : Type 0} (h : A → B) (k : G → H) (st : Statement A G) → new_of (map_statement h k st) ≡ new_of st
 unfolding new_of map_statement
 new_mapped h k skip = refl
 new_mapped h k (set x a) = refl
-new_mapped h k (new x j es) = ap (λ n. some (j, n)) (length-map es h)
+new_mapped h k (new x j es) = ap (λ n. Some (j, n)) (length-map es h)
 new_mapped h k (call x a j es) = refl
 new_mapped h k (get x y) = refl
 new_mapped h k (await g) = refl
@@ -111,22 +96,24 @@ pub got_end : {A G : Type 0} (R : Reading A) (Q : GuardReading A G) (lim : Limit
 unfolding statement
 got_end {A} {G} R Q lim classes s p st e = go (form_of s) e
   where
-    go : (o : Option Form) → elim o [ none ↦ bad 0 | some f ↦ ended s (next (word (word_of f) s 0) (λ at _. rest R Q lim classes s f at)) ] ≡ got p st
+    go : (o : Option Form) → elim o [ None ↦ bad 0 | Some f ↦ ended s (next (word (word_of f) s 0) (λ at _. rest R Q lim classes s f at)) ] ≡ got p st
         → p ≡ length s
-    go none e = cc
-    go (some f) e = ended_end s _ p st e
+    go None e = cc
+    go (Some f) e = ended_end s _ p st e
 
 -- what the code gives for a reading tells the reading
-code_told_bad : (q : Parsed (Statement Worked Worked)) (p : ℕ) → (as_code q).read ≡ Read.Bad p → q ≡ bad p
-unfolding as_code refused_at
+code_told_bad : (q : Parsed (Statement Worked Worked)) (p : ℕ) → as_code q ≡ Err p → q ≡ bad p
+unfolding as_code
 code_told_bad (got at st) p e = cc
 code_told_bad (bad at) p e = cc
 
-code_told_got : (q : Parsed (Statement Worked Worked)) (st : Declared.Statement) → (as_code q).read ≡ Read.Got st
-    → (p : ℕ) × (w : Statement Worked Worked) × (q ≡ got p w) × (st ≡ as_statement w) × ((as_code q).arguments ≡ arguments_of w)
-unfolding as_code refused_at
-code_told_got (got at w) st e = (at, w, refl, cc, refl)
-code_told_got (bad at) st e = absurd (let z : ◌≡◌ {A = ℕ} 0 1 = cc in omega arith)
+code_told_got : (q : Parsed (Statement Worked Worked)) (st : Declared.Statement) (es : Arguments) → as_code q ≡ Ok (st, es)
+    → (p : ℕ) × (w : Statement Worked Worked) × (q ≡ got p w) × (st ≡ as_statement w) × (es ≡ arguments_of w)
+unfolding as_code
+code_told_got (got at w) st es e =
+    let f : ◌≡◌ {A = Declared.Statement × Arguments} (st, es) (as_statement w, arguments_of w) = cc in
+    (at, w, refl, ap (λ z. z.0) f, ap (λ z. z.1) f)
+code_told_got (bad at) st es e = absurd (let z : ◌≡◌ {A = ℕ} 0 1 = cc in omega arith)
 
 -- a map's result tells what was mapped
 mapped_told_bad : {A B : Type 0} (h : A → B) (q : Parsed A) (p : ℕ) → mapped h q ≡ bad p → q ≡ bad p
@@ -140,29 +127,28 @@ mapped_told_got h (got at a) p b e = (a, (cc), (cc))
 mapped_told_got h (bad at) p b e = absurd (let z : ◌≡◌ {A = ℕ} 0 1 = cc in omega arith)
 
 -- the tree of a code value of which the code gives a statement and its arguments
-pub record Told (cells : Cells) (a : Around) (classes : ℕ) (s : Text) (r : ReadCode) (st : Declared.Statement) : Type 0 where
+pub record Told (cells : Cells) (a : Around) (classes : ℕ) (s : Text) (st : Declared.Statement) (es : Arguments) : Type 0 where
   pub code : Code
   pub tree : statement trees guard_trees a.limits classes s ≡ got (length s) code
   pub said : st ≡ as_statement (map_statement (value_of (surroundings cells a.here)) (guard_of (surroundings cells a.here)) code)
-  pub beside : r.arguments ≡ arguments_of (map_statement (value_of (surroundings cells a.here)) (guard_of (surroundings cells a.here)) code)
+  pub beside : es ≡ arguments_of (map_statement (value_of (surroundings cells a.here)) (guard_of (surroundings cells a.here)) code)
   pub shape : shape_said st ≡ shape_of code
-  pub creates : new_said st r.arguments.count ≡ new_of code
+  pub creates : new_said st es.count ≡ new_of code
 
-module _ (cells : Cells) (a : Around) (classes : ℕ) (s : Text) (r : ReadCode) (e : r ≡ statement_read cells a classes s) where
-  pub told_bad : (p : ℕ) → r.read ≡ Read.Bad p → statement trees guard_trees a.limits classes s ≡ bad p
+module _ (cells : Cells) (a : Around) (classes : ℕ) (s : Text) (r : Result (Declared.Statement × Arguments) ℕ) (e : r ≡ statement_read cells a classes s) where
+  pub told_bad : (p : ℕ) → r ≡ Err p → statement trees guard_trees a.limits classes s ≡ bad p
   told_bad p f =
       let around = surroundings cells a.here in
-      mapped_told_bad _ _ p
-      (statement_of_tree around a.limits classes s ∙ code_told_bad _ p (sym (ap (λ (x : ReadCode). x.read) e) ∙ f))
+      mapped_told_bad _ _ p (statement_of_tree around a.limits classes s ∙ code_told_bad _ p (sym e ∙ f))
 
-  pub told_got : (st : Declared.Statement) → r.read ≡ Read.Got st → Told cells a classes s r st
-  told_got st f =
+  pub told_got : (st : Declared.Statement) (es : Arguments) → r ≡ Ok (st, es) → Told cells a classes s st es
+  told_got st es f =
       let around = surroundings cells a.here in
       let put = map_statement (value_of around) (guard_of around) in
-      let w = code_told_got _ st (sym (ap (λ (x : ReadCode). x.read) e) ∙ f) in
+      let w = code_told_got _ st es (sym e ∙ f) in
       let t = mapped_told_got put _ w.0 w.1 (statement_of_tree around a.limits classes s ∙ w.2) in
       let said : st ≡ as_statement (put t.0) = w.3 ∙ ap as_statement t.2 in
-      let beside : r.arguments ≡ arguments_of (put t.0) = ap (λ (x : ReadCode). x.arguments) e ∙ w.4 ∙ ap arguments_of t.2 in
+      let beside : es ≡ arguments_of (put t.0) = w.4 ∙ ap arguments_of t.2 in
       record {
         code = t.0;
         tree = t.1 ∙ ap (λ p. got p t.0) (got_end trees guard_trees a.limits classes s w.0 t.0 t.1);
@@ -170,7 +156,7 @@ module _ (cells : Cells) (a : Around) (classes : ℕ) (s : Text) (r : ReadCode) 
         beside = beside;
         shape = ap shape_said said ∙ shape_said_lem (put t.0) ∙ shape_mapped (value_of around) (guard_of around) t.0;
         creates =
-            ap (λ x. new_said x r.arguments.count) said
+            ap (λ x. new_said x es.count) said
             ∙ ap (λ (x : Arguments). new_said (as_statement (put t.0)) x.count) beside
             ∙ new_said_lem (put t.0)
             ∙ new_mapped (value_of around) (guard_of around) t.0;

@@ -1,6 +1,5 @@
 -- How the lines of a method open and close blocks. Assumes nothing.
-use Rattle.std.specs.Prelude.{ℕ, Bool, true, false, List, [], ◌∷◌, eqb}
-use Rattle.std.proofs.Math.Option.{Option, none, some}
+use Rattle.std.specs.Prelude.{ℕ, Bool, true, false, List, [], ◌∷◌, eqb, Option, None, Some}
 use Rattle.code.specs.declared.Shape.{Shape}
 use Rattle.code.specs.Statements.{Statement, skip, set, new, call, get, await, if, else, fi, while, od, return}
 
@@ -45,49 +44,49 @@ rank until_od = 2
 
 -- the block that a line closes, and the one that it opens: "Every `if` has one `else` and one `fi`"
 unfoldable pub closing : Shape → Option Block
-closing Shape.If = none
-closing Shape.Else = some until_else
-closing Shape.Fi = some until_fi
-closing Shape.While = none
-closing Shape.Od = some until_od
-closing Shape.Return = none
-closing Shape.Await = none
-closing Shape.Plain = none
+closing Shape.If = None
+closing Shape.Else = Some until_else
+closing Shape.Fi = Some until_fi
+closing Shape.While = None
+closing Shape.Od = Some until_od
+closing Shape.Return = None
+closing Shape.Await = None
+closing Shape.Plain = None
 
 unfoldable pub opening : Shape → Option Block
-opening Shape.If = some until_else
-opening Shape.Else = some until_fi
-opening Shape.Fi = none
-opening Shape.While = some until_od
-opening Shape.Od = none
-opening Shape.Return = none
-opening Shape.Await = none
-opening Shape.Plain = none
+opening Shape.If = Some until_else
+opening Shape.Else = Some until_fi
+opening Shape.Fi = None
+opening Shape.While = Some until_od
+opening Shape.Od = None
+opening Shape.Return = None
+opening Shape.Await = None
+opening Shape.Plain = None
 
 -- the open blocks, innermost first, without the one that a line closes: it must be the innermost
 unfoldable pub without : Option Block → List Block → Option (List Block)
-without none bs = some bs
-without (some b) [] = none
-without (some b) (c ∷ bs) = elim (eqb (rank b) (rank c)) [ true ↦ some bs | false ↦ none ]
+without None bs = Some bs
+without (Some b) [] = None
+without (Some b) (c ∷ bs) = elim (eqb (rank b) (rank c)) [ true ↦ Some bs | false ↦ None ]
 
 unfoldable pub with : Option Block → List Block → List Block
-with none bs = bs
-with (some b) bs = b ∷ bs
+with None bs = bs
+with (Some b) bs = b ∷ bs
 
 -- the open blocks after a line, or none where the line cannot stand there
 unfoldable pub through : Shape → List Block → Option (List Block)
-through l bs = elim (without (closing l) bs) [ none ↦ none | some after ↦ some (with (opening l) after) ]
+through l bs = elim (without (closing l) bs) [ None ↦ None | Some after ↦ Some (with (opening l) after) ]
 
 -- the open blocks after several lines
 unfoldable pub through_all : List Shape → List Block → Option (List Block)
-through_all [] bs = some bs
-through_all (l ∷ ls) bs = elim (through l bs) [ none ↦ none | some after ↦ through_all ls after ]
+through_all [] bs = Some bs
+through_all (l ∷ ls) bs = elim (through l bs) [ None ↦ None | Some after ↦ through_all ls after ]
 
 -- no block is open
 unfoldable pub all_closed : Option (List Block) → Bool
-all_closed none = false
-all_closed (some []) = true
-all_closed (some (b ∷ bs)) = false
+all_closed None = false
+all_closed (Some []) = true
+all_closed (Some (b ∷ bs)) = false
 
 -- lines that open what they close and close what they open
 unfoldable pub balanced : List Shape → Bool

@@ -1,14 +1,13 @@
 -- The partner of a line that opens or closes a block, by what it is: the lines between the two are balanced. Assumes nothing.
-use Rattle.std.specs.Prelude.{ℕ, zero, suc, ◌+◌, ◌-◌, Bool, true, false, ◌&&◌, List, eqb, length, get_or, take, drop}
-use Rattle.std.proofs.Math.Option.{Option, none, some}
+use Rattle.std.specs.Prelude.{ℕ, zero, suc, ◌+◌, ◌-◌, Bool, true, false, ◌&&◌, List, eqb, length, get_or, take, drop, Option, None, Some}
 use Rattle.code.specs.declared.Shape.{Shape}
 use Rattle.code.specs.Blocks.{Block, rank, opening, closing, balanced}
 
 -- one line opens the block that another closes: an `else` fits an `if`, a `fi` an `else`, an `od` a `while`
 unfoldable pub same_block : Option Block → Option Block → Bool
-same_block none c = false
-same_block (some b) none = false
-same_block (some b) (some c) = eqb (rank b) (rank c)
+same_block None c = false
+same_block (Some b) None = false
+same_block (Some b) (Some c) = eqb (rank b) (rank c)
 
 unfoldable pub fits : Shape → Shape → Bool
 fits l m = same_block (opening l) (closing m)
@@ -23,18 +22,18 @@ partners ls i j = fits (get_or ls i Shape.Plain) (get_or ls j Shape.Plain) && ba
 
 -- the first number from j on that passes a test, of so many
 unfoldable pub first_from : (ℕ → Bool) → ℕ → ℕ → Option ℕ
-first_from test zero j = none
-first_from test (suc more) j = elim (test j) [ true ↦ some j | false ↦ first_from test more (j + 1) ]
+first_from test zero j = None
+first_from test (suc more) j = elim (test j) [ true ↦ Some j | false ↦ first_from test more (j + 1) ]
 
 -- the last number below j that passes a test
 unfoldable pub last_below : (ℕ → Bool) → ℕ → Option ℕ
-last_below test zero = none
-last_below test (suc j) = elim (test j) [ true ↦ some j | false ↦ last_below test j ]
+last_below test zero = None
+last_below test (suc j) = elim (test j) [ true ↦ Some j | false ↦ last_below test j ]
 
 -- a line past the end, where there is no partner: no accepted model asks for it
 unfoldable pub or_end : List Shape → Option ℕ → ℕ
-or_end ls none = length ls
-or_end ls (some j) = j
+or_end ls None = length ls
+or_end ls (Some j) = j
 
 -- the partner of a line that opens a block
 unfoldable pub ahead : List Shape → ℕ → ℕ

@@ -1,7 +1,6 @@
 -- The grammar of code values, over any reading. Assumes nothing.
-use Rattle.std.specs.Prelude.{ℕ, ◌+◌, ◌-◌, true, false, List, [], ◌∷◌, ◌++◌, eqb, length}
+use Rattle.std.specs.Prelude.{ℕ, ◌+◌, ◌-◌, true, false, List, [], ◌∷◌, ◌++◌, eqb, length, Option, None, Some}
 use Prim.Native.Char.{code}
-use Rattle.std.proofs.Math.Option.{Option, none, some}
 use Rattle.terms.specs.declared.Variable.{Variable}
 use Rattle.terms.specs.Bytes.{Text, bytes, byte_at}
 use Rattle.terms.specs.Expressions.{Reading, brackets, expression}
@@ -30,8 +29,8 @@ word_of Form.Return = bytes "return "
 
 -- the form whose word begins with a byte, of those in a list
 unfoldable pub beginning : ℕ → List (ℕ × Form) → Option Form
-beginning b [] = none
-beginning b (f ∷ fs) = elim (eqb b f.0) [ true ↦ some f.1 | false ↦ beginning b fs ]
+beginning b [] = None
+beginning b (f ∷ fs) = elim (eqb b f.0) [ true ↦ Some f.1 | false ↦ beginning b fs ]
 
 -- the forms that begin with a byte other than `s`
 abbrev pub initials : List (ℕ × Form)
@@ -42,7 +41,7 @@ initials =
 -- the first byte tells the forms apart, and after an `s` the second
 unfoldable pub form_of : Text → Option Form
 form_of s = elim (eqb (byte_at s 0) (code "s")) [
-  | true ↦ elim (eqb (byte_at s 1) (code "k")) [ true ↦ some Form.Skip | false ↦ some Form.Set ]
+  | true ↦ elim (eqb (byte_at s 1) (code "k")) [ true ↦ Some Form.Skip | false ↦ Some Form.Set ]
   | false ↦ beginning (byte_at s 0) initials
 ]
 
@@ -61,7 +60,7 @@ abbrev pub arguments_after : ℕ
 arguments_after = 3
 
 unfoldable pub comma : ℕ → Option (Unit {0})
-comma b = elim (eqb b (code ",")) [ true ↦ some tt | false ↦ none ]
+comma b = elim (eqb b (code ",")) [ true ↦ Some tt | false ↦ None ]
 
 module _ {A G : Type 0} (R : Reading A) (Q : GuardReading A G) (lim : Limits) (classes : ℕ) (s : Text) where
   -- each expression begins with no bracket open
@@ -100,4 +99,4 @@ module _ {A G : Type 0} (R : Reading A) (Q : GuardReading A G) (lim : Limits) (c
 
   -- a whole code value
   unfoldable pub statement : Parsed (Statement A G)
-  statement = elim (form_of s) [ none ↦ bad 0 | some f ↦ ended s (next (word (word_of f) s 0) (λ at _. rest f at)) ]
+  statement = elim (form_of s) [ None ↦ bad 0 | Some f ↦ ended s (next (word (word_of f) s 0) (λ at _. rest f at)) ]

@@ -1,6 +1,5 @@
 -- What a code value is, over what a reading gives for its expressions and guards. Assumes nothing.
-use Rattle.std.specs.Prelude.{ℕ, List, map, length}
-use Rattle.std.proofs.Math.Option.{Option, none, some}
+use Rattle.std.specs.Prelude.{ℕ, List, map, length, Option, None, Some}
 use Rattle.terms.specs.declared.Variable.{Variable}
 use Rattle.terms.specs.Trees.{Expression, Guard}
 
@@ -40,15 +39,15 @@ map_statement h k (return a) = return (h a)
 
 -- the class that a `new` names, and how many arguments it has; none of another statement
 unfoldable pub new_of : {A G : Type 0} → Statement A G → Option (ℕ × ℕ)
-new_of skip = none
-new_of (set x a) = none
-new_of (new x k es) = some (k, length es)
-new_of (call x a j es) = none
-new_of (get x y) = none
-new_of (await g) = none
-new_of (if a) = none
-new_of else = none
-new_of fi = none
-new_of (while a) = none
-new_of od = none
-new_of (return a) = none
+new_of skip = None
+new_of (set x a) = None
+new_of (new x k es) = Some (k, length es)
+new_of (call x a j es) = None
+new_of (get x y) = None
+new_of (await g) = None
+new_of (if a) = None
+new_of else = None
+new_of fi = None
+new_of (while a) = None
+new_of od = None
+new_of (return a) = None

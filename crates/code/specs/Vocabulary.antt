@@ -4,5 +4,6 @@ pub mod Answers
 pub mod Counting
 pub mod Creating
 pub mod OpenBlocks
+pub mod Parts
 pub mod Readers
 pub mod Shapes

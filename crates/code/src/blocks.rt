@@ -1,11 +1,10 @@
-// The open blocks of a method as one number: a digit for each block, the innermost lowest, base 4. No digit is 0.
-ghost use Rattle.std.specs.Prelude.{List, ◌∷◌, ◌≡◌, ◌<◌};
-ghost use Rattle.std.proofs.Math.Option.{some};
-ghost use Rattle.code.specs.declared.Shape.TheVariants as Shape;
+// The open blocks of a method as one number: a digit for each block, the innermost lowest, base 4. No digit is 0. A number and no list: the engine
+// allocates nothing, and `through` is public over every number.
+ghost use Rattle.std.specs.Prelude.{List, ◌∷◌, ◌≡◌, ◌<◌, ◌≤◌, Some, IfSome};
 ghost use Rattle.code.specs.Blocks as Blocks;
 ghost use Rattle.code.specs.Vocabulary.OpenBlocks as OpenBlocks;
 
-use crate::{BlocksAfter, Shape, Statement};
+use crate::{Shape, Statement};
 
 // The digit of an `if` that waits for its `else`.
 const UNTIL_ELSE: u32 = 1;
@@ -36,68 +35,38 @@ pub fn shape_of(statement: Statement) -> Shape
     }
 }
 
-// The number of a shape, by which a method's lines are handed over.
-#[tactic(auto, unfolding(crate::specs::Blocks::shape_number))]
-pub fn shape_number(shape: Shape) -> u8
-    ensures { result ≡ Blocks.shape_number shape }
-{
-    match shape {
-        Shape::If => 0,
-        Shape::Else => 1,
-        Shape::Fi => 2,
-        Shape::While => 3,
-        Shape::Od => 4,
-        Shape::Return => 5,
-        Shape::Await => 6,
-        Shape::Plain => 7,
-    }
-}
-
 // The open blocks with one more, the innermost.
 #[tactic(auto, using(crate::proofs::OpenBlocks::blocks_opened))]
-fn opened(digit: u32, blocks: u32) -> BlocksAfter
+fn opened(digit: u32, blocks: u32) -> u32
     requires digit_bound { digit < 4 }
     requires blocks_bound { blocks < 65536 }
-    ensures { (b : Blocks.Block) (bs : List Blocks.Block) → digit ≡ OpenBlocks.block_digit b → blocks ≡ OpenBlocks.packed_blocks bs → result ≡ OpenBlocks.as_blocks (some (b ∷ bs)) }
+    ensures { (b : Blocks.Block) (bs : List Blocks.Block) → digit ≡ OpenBlocks.block_digit b → blocks ≡ OpenBlocks.packed_blocks bs → result ≡ OpenBlocks.packed_blocks (b ∷ bs) }
 {
-    BlocksAfter::Open(digit + BASE * blocks)
+    digit + BASE * blocks
 }
 
 // The open blocks without the innermost, which must have the digit.
 #[tactic(auto, using(crate::proofs::OpenBlocks::blocks_closed, crate::proofs::OpenBlocks::blocks_unmatched))]
-fn without(digit: u32, blocks: u32) -> BlocksAfter
-    ensures { (b : Blocks.Block) (bs : List Blocks.Block) → digit ≡ OpenBlocks.block_digit b → blocks ≡ OpenBlocks.packed_blocks bs → result ≡ OpenBlocks.as_blocks (Blocks.without (some b) bs) }
+fn without(digit: u32, blocks: u32) -> Option<u32>
+    ensures closed { (b : Blocks.Block) (bs : List Blocks.Block) → digit ≡ OpenBlocks.block_digit b → blocks ≡ OpenBlocks.packed_blocks bs → result ≡ OpenBlocks.as_blocks (Blocks.without (Some b) bs) }
+    ensures fewer { IfSome result (λ outer. outer ≤ blocks) }
 {
-    if blocks % BASE == digit {
-        return BlocksAfter::Open(blocks / BASE);
-    }
-    BlocksAfter::Unmatched
+    (blocks % BASE == digit).then_some(blocks / BASE)
 }
 
-// The open blocks after an `else`: the innermost must wait for it, and waits for its `fi` from here on.
-#[tactic(auto, using(crate::proofs::OpenBlocks::else_matched, crate::proofs::OpenBlocks::else_unmatched))]
-fn past_else(blocks: u32) -> BlocksAfter
-    requires { blocks < 65536 }
-    ensures { (bs : List Blocks.Block) → blocks ≡ OpenBlocks.packed_blocks bs → result ≡ OpenBlocks.as_blocks (Blocks.through Shape.Else bs) }
-{
-    if blocks % BASE == UNTIL_ELSE {
-        return BlocksAfter::Open(blocks - UNTIL_ELSE + UNTIL_FI);
-    }
-    BlocksAfter::Unmatched
-}
-
-// The open blocks after a line.
-#[tactic(auto, using(crate::proofs::OpenBlocks::after_fi, crate::proofs::OpenBlocks::after_od), unfolding(crate::specs::Blocks::closing, crate::specs::Blocks::opening, crate::specs::Blocks::rank, crate::specs::Blocks::through, crate::specs::Blocks::with, crate::specs::Blocks::without, crate::specs::Vocabulary::OpenBlocks::as_blocks, crate::specs::Vocabulary::OpenBlocks::block_digit))]
-pub fn through(shape: Shape, blocks: u32) -> BlocksAfter
+// The open blocks after a line. A number with a clause and no type with a range: after a line one block more may be open than before it. An
+// `else` exchanges the innermost: it must wait for its `else`, and waits for its `fi` from here on.
+#[tactic(auto, unfolding(crate::specs::Blocks::closing, crate::specs::Blocks::opening, crate::specs::Blocks::rank, crate::specs::Blocks::through, crate::specs::Blocks::with, crate::specs::Blocks::without, crate::specs::Vocabulary::OpenBlocks::as_blocks, crate::specs::Vocabulary::OpenBlocks::block_digit))]
+pub fn through(shape: Shape, blocks: u32) -> Option<u32>
     requires { blocks < 65536 }
     ensures { (bs : List Blocks.Block) → blocks ≡ OpenBlocks.packed_blocks bs → result ≡ OpenBlocks.as_blocks (Blocks.through shape bs) }
 {
     match shape {
-        Shape::If => opened(UNTIL_ELSE, blocks),
-        Shape::Else => past_else(blocks),
+        Shape::If => Some(opened(UNTIL_ELSE, blocks)),
+        Shape::Else => Some(opened(UNTIL_FI, without(UNTIL_ELSE, blocks)?)),
         Shape::Fi => without(UNTIL_FI, blocks),
-        Shape::While => opened(UNTIL_OD, blocks),
+        Shape::While => Some(opened(UNTIL_OD, blocks)),
         Shape::Od => without(UNTIL_OD, blocks),
-        Shape::Return | Shape::Await | Shape::Plain => BlocksAfter::Open(blocks),
+        Shape::Return | Shape::Await | Shape::Plain => Some(blocks),
     }
 }

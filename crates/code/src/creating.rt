@@ -2,15 +2,15 @@
 ghost use Rattle.std.specs.Prelude.{◌≡◌};
 ghost use Rattle.code.specs.Vocabulary.Creating as Creating;
 
-use crate::{NewFound, Statement};
+use crate::Statement;
 
 // The class that a `new` names and how many arguments it has, of a statement beside which so many arguments stand.
-#[tactic(auto, unfolding(crate::specs::Vocabulary::Creating::as_new, crate::specs::Vocabulary::Creating::new_said))]
-pub fn new_of(statement: Statement, count: usize) -> NewFound
-    ensures { result ≡ Creating.as_new (Creating.new_said statement count) }
+#[tactic(auto, unfolding(crate::specs::Vocabulary::Creating::new_said))]
+pub fn new_of(statement: Statement, count: usize) -> Option<(u32, usize)>
+    ensures { result ≡ Creating.new_said statement count }
 {
     match statement {
-        Statement::New(_, class) => NewFound::Is(class, count),
-        _ => NewFound::Nothing,
+        Statement::New(_, class) => Some((class, count)),
+        _ => None,
     }
 }

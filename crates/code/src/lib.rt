@@ -1,16 +1,18 @@
 // Code values: statements, and the partners of the lines that open and close blocks.
 #![tactic(auto)]
 
-use terms::{ReadWord, Variable};
-use whole::Worked;
+ghost use Rattle.std.specs.Prelude.{◌≡◌, set};
+
+use terms::Variable;
 
 pub mod blocks;
 pub mod creating;
 pub mod partners;
+mod shape_numbers;
 pub mod statements;
 
 // The twelve forms of a code value.
-#[derive(Clone, Copy)]
+#[derive(Clone, Copy, Debug, PartialEq, Eq)]
 pub enum Form {
     Skip,
     Set,
@@ -27,67 +29,87 @@ pub enum Form {
 }
 
 // The forms that are a word and an expression.
-#[derive(Clone, Copy)]
+#[derive(Clone, Copy, Debug, PartialEq, Eq)]
 pub enum Valued {
     If,
     While,
     Return,
 }
 
-#[derive(Clone, Copy)]
-pub enum FormFound {
-    Is(Form),
-    Nothing,
-}
-
 // A statement with its expressions and its guard worked out. The arguments of a `new` and of a `call` stand beside it.
 #[derive(Clone, Copy)]
 pub enum Statement {
     Skip,
-    Set(Variable, Worked),
+    Set(Variable, Option<i32>),
     New(Variable, u32),
-    Call(Variable, Worked, u32),
+    Call(Variable, Option<i32>, u32),
     Get(Variable, Variable),
-    Await(Worked),
-    If(Worked),
+    Await(Option<i32>),
+    If(Option<i32>),
     Else,
     Fi,
-    While(Worked),
+    While(Option<i32>),
     Od,
-    Return(Worked),
+    Return(Option<i32>),
 }
 
-// Arguments worked out: the first eight of them (0 for one that is none), how many there are, and whether each is a value. The widest part
-// stands first, here and where arguments are a part: with a byte and its gap before the eight, a code line was read in a quarter more time.
-#[derive(Clone, Copy)]
+// Arguments worked out: the first eight of them (0 past the last), if each of all is a value, and how many there are.
+#[derive(Clone, Copy, Debug, PartialEq, Eq)]
 pub struct Arguments {
-    pub values: [i32; 8],
+    pub values: Option<[i32; 8]>,
     pub count: usize,
-    pub fit: bool,
 }
 
-// Where a list of arguments ended, or the place of its refusal.
-#[derive(Clone, Copy)]
-pub struct ReadList {
-    pub arguments: Arguments,
-    pub end: ReadWord,
+impl Arguments {
+    ghost use Rattle.std.specs.Prelude.{◌≡◌, ◌+◌, ◌<◌, ◌^◌};
+    ghost use Rattle.code.specs.Vocabulary.Answers as Answers;
+
+    // No arguments.
+    #[tactic(auto, unfolding(crate::specs::Vocabulary::Answers::no_arguments))]
+    fn none() -> Arguments
+        ensures { result ≡ Answers.no_arguments }
+    {
+        Arguments {
+            values: Some([0; 8]),
+            count: 0,
+        }
+    }
+
+    // One argument more; past the eighth only the count goes on.
+    #[tactic(auto, unfolding(crate::specs::Vocabulary::Answers::with_one))]
+    fn with_one(self, value: Option<i32>) -> Arguments
+        requires { self.count + 1 < 2 ^ 64 }
+        ensures { result ≡ Answers.with_one self value }
+    {
+        let count = self.count + 1;
+        match (self.values, value) {
+            (Some(values), Some(z)) => Arguments {
+                values: Some(kept(values, self.count, z)),
+                count,
+            },
+            _ => Arguments {
+                values: None,
+                count,
+            },
+        }
+    }
 }
 
-// A code value that was read, or the place of its refusal.
-#[derive(Clone, Copy)]
-pub enum ReadStatement {
-    Got(Statement),
-    Bad(usize),
+// A value among the first eight; past them it is not kept. By index: with `get_mut` the proof did not close.
+fn kept(mut values: [i32; 8], at: usize, z: i32) -> [i32; 8]
+    ensures { result ≡ set values at z }
+{
+    if at < values.len() {
+        values[at] = z;
+    }
+    values
 }
 
-#[derive(Clone, Copy)]
-pub struct ReadCode {
-    pub arguments: Arguments,
-    pub read: ReadStatement,
-}
+/// A code value that was read, with the arguments of a `new` or a `call`, or the place of its refusal.
+pub type ReadCode = Result<(Statement, Arguments), usize>;
 
 // What a line is, as far as blocks, returns and awaits go.
-#[derive(Clone, Copy)]
+#[derive(Clone, Copy, Debug, PartialEq, Eq)]
 pub enum Shape {
     If,
     Else,
@@ -97,18 +119,4 @@ pub enum Shape {
     Return,
     Await,
     Plain,
-}
-
-// The open blocks after a line, as one number; or the line closes a block that is not the innermost open one.
-#[derive(Clone, Copy)]
-pub enum BlocksAfter {
-    Open(u32),
-    Unmatched,
-}
-
-// The class of a `new` and how many arguments it has, or none where a statement is no `new`.
-#[derive(Clone, Copy)]
-pub enum NewFound {
-    Is(u32, usize),
-    Nothing,
 }

@@ -1,21 +1,15 @@
 // The statement reader: a code value to a statement whose values are worked out while it is read.
-ghost use Rattle.std.specs.Prelude.{◌≡◌, ◌+◌, ◌-◌, ◌≤◌, ◌<◌, ◌^◌, length, set};
-ghost use Rattle.terms.specs.Vocabulary.Answers.{as_value, as_variable, as_word};
-ghost use Rattle.terms.specs.Leaves as Leaves;
-ghost use Rattle.terms.specs.Expressions.{brackets};
-ghost use Rattle.terms.specs.Parsed.{word, closed, ended, mapped};
-ghost use Rattle.terms.specs.Vocabulary.Readers.{expression_read};
+ghost use Rattle.std.specs.Prelude.{◌≡◌, ◌+◌, ◌-◌, ◌≤◌, ◌<◌, ◌^◌, [], ◌∷◌, Ok};
+ghost use Rattle.terms.specs.Vocabulary.Answers.{as_result, as_place};
+ghost use Rattle.terms.specs.Parsed.{word, mapped};
 ghost use Rattle.code.specs.declared.Form.TheVariants as Form;
+ghost use Rattle.code.specs.Reader as Grammar;
 ghost use Rattle.code.specs.Vocabulary.Answers as Answers;
-ghost use Rattle.code.specs.Reader as Reader;
 ghost use Rattle.code.specs.Vocabulary.Readers as Readers;
 
-use crate::{Arguments, Form, FormFound, ReadCode, ReadList, ReadStatement, Statement, Valued};
-use terms::{
-    Around, Limits, ReadNumber, ReadValue, ReadVariable, ReadWord, Variable, expressions, guards,
-    leaves,
-};
-use whole::Worked;
+use crate::{Arguments, Form, ReadCode, Statement, Valued};
+use terms::expressions::BRACKETS;
+use terms::{Around, Parsed, Variable, expressions, guards, leaves};
 
 // "J 0..7"
 const LAST_METHOD: u32 = 7;
@@ -23,415 +17,234 @@ const LAST_METHOD: u32 = 7;
 // "0 to 4 arguments": a first, and at most three after it.
 const ARGUMENTS_AFTER: usize = 3;
 
-#[tactic(auto, unfolding(crate::specs::Vocabulary::Answers::no_arguments))]
-fn no_arguments() -> Arguments
-    ensures { result ≡ Answers.no_arguments }
-{
-    Arguments {
-        count: 0,
-        fit: true,
-        values: [0; 8],
-    }
-}
-
-// A value among the first eight; past them it is not kept.
-fn kept(values: [i32; 8], at: usize, z: i32) -> [i32; 8]
-    ensures { result ≡ set values at z }
-{
-    let mut longer = values;
-    if at < 8 {
-        longer[at] = z;
-        return longer;
-    }
-    longer
-}
-
-// One argument more; past the eighth only the count goes on.
-#[tactic(auto, unfolding(crate::specs::Vocabulary::Answers::with_one))]
-fn with_one(a: Arguments, w: Worked) -> Arguments
-    requires { a.count + 1 < 2 ^ 64 }
-    ensures { result ≡ Answers.with_one a w }
-{
-    let at = a.count;
-    let values = a.values;
-    match w {
-        Worked::OutOfRange => Arguments {
-            count: at + 1,
-            fit: false,
-            values,
-        },
-        Worked::Value(z) => {
-            let longer = kept(values, at, z);
-            Arguments {
-                count: at + 1,
-                fit: a.fit,
-                values: longer,
-            }
-        }
-    }
-}
-
-// A refusal at a place.
-#[tactic(auto, unfolding(crate::specs::Vocabulary::Answers::refused_at))]
-fn refused(at: usize) -> ReadCode
-    ensures { result ≡ Answers.refused_at at }
-{
-    ReadCode {
-        read: ReadStatement::Bad(at),
-        arguments: no_arguments(),
-    }
-}
-
-// A statement that was read up to a place, which must be the end of the value.
-#[tactic(auto, unfolding(crate::specs::Vocabulary::Answers::finished))]
-fn finished(s: &[u8], at: usize, statement: Statement, arguments: Arguments) -> ReadCode
-    ensures { result ≡ Answers.finished s.now at statement arguments }
-{
-    if at == s.len() {
-        return ReadCode {
-            read: ReadStatement::Got(statement),
-            arguments,
-        };
-    }
-    refused(at)
-}
-
-// The forms that begin with a byte other than `s`: each has a first byte of its own.
-#[tactic(auto, using(crate::proofs::Forms::beginning_none), unfolding(crate::specs::Reader::beginning, crate::specs::Vocabulary::Answers::as_form))]
-fn form_by(b: u8) -> FormFound
-    ensures { result ≡ Answers.as_form (Reader.beginning b Reader.initials) }
-{
-    match b {
-        b'n' => FormFound::Is(Form::New),
-        b'c' => FormFound::Is(Form::Call),
-        b'g' => FormFound::Is(Form::Get),
-        b'a' => FormFound::Is(Form::Await),
-        b'i' => FormFound::Is(Form::If),
-        b'e' => FormFound::Is(Form::Else),
-        b'f' => FormFound::Is(Form::Fi),
-        b'w' => FormFound::Is(Form::While),
-        b'o' => FormFound::Is(Form::Od),
-        b'r' => FormFound::Is(Form::Return),
-        _ => FormFound::Nothing,
-    }
-}
-
 // The first byte tells the forms apart, and after an `s` the second.
-#[tactic(auto, using(crate::proofs::Forms::form_other, crate::proofs::Forms::form_set, crate::proofs::Forms::form_skip), unfolding(crate::specs::Reader::form_of, crate::specs::Vocabulary::Answers::as_form))]
-fn form_of(s: &[u8]) -> FormFound
-    ensures { result ≡ Answers.as_form (Reader.form_of s.now) }
+#[tactic(auto, using(crate::proofs::Forms::form_other, crate::proofs::Forms::form_set, crate::proofs::Forms::form_skip, crate::proofs::Forms::beginning_none), unfolding(crate::specs::Reader::beginning))]
+fn form_of(s: &[u8]) -> Option<Form>
+    ensures { result ≡ Grammar.form_of s.now }
 {
-    let b = leaves::byte_at(s, 0);
-    if b != b's' {
-        return form_by(b);
+    match leaves::byte_at(s, 0) {
+        b's' if leaves::byte_at(s, 1) == b'k' => Some(Form::Skip),
+        b's' => Some(Form::Set),
+        b'n' => Some(Form::New),
+        b'c' => Some(Form::Call),
+        b'g' => Some(Form::Get),
+        b'a' => Some(Form::Await),
+        b'i' => Some(Form::If),
+        b'e' => Some(Form::Else),
+        b'f' => Some(Form::Fi),
+        b'w' => Some(Form::While),
+        b'o' => Some(Form::Od),
+        b'r' => Some(Form::Return),
+        _ => None,
     }
-    if leaves::byte_at(s, 1) == b'k' {
-        return FormFound::Is(Form::Skip);
-    }
-    FormFound::Is(Form::Set)
 }
 
-// The word that a form begins with.
-#[tactic(auto, unfolding(crate::specs::Reader::word_of, terms::specs::Parsed::word, terms::specs::Vocabulary::Answers::as_word))]
-fn word_of(form: Form, s: &[u8]) -> ReadWord
-    ensures { result ≡ as_word (word (Reader.word_of form) s.now 0) }
+// The word that a form begins with, with the space that follows it where the form has more.
+#[tactic(auto, unfolding(crate::specs::Reader::word_of))]
+fn word_of(form: Form) -> &'static [u8]
+    ensures { result.now ≡ Grammar.word_of form }
 {
     match form {
-        Form::Skip => leaves::word(b"skip", s, 0),
-        Form::Set => leaves::word(b"set ", s, 0),
-        Form::New => leaves::word(b"new ", s, 0),
-        Form::Call => leaves::word(b"call ", s, 0),
-        Form::Get => leaves::word(b"get ", s, 0),
-        Form::Await => leaves::word(b"await ", s, 0),
-        Form::If => leaves::word(b"if ", s, 0),
-        Form::Else => leaves::word(b"else", s, 0),
-        Form::Fi => leaves::word(b"fi", s, 0),
-        Form::While => leaves::word(b"while ", s, 0),
-        Form::Od => leaves::word(b"od", s, 0),
-        Form::Return => leaves::word(b"return ", s, 0),
+        Form::Skip => b"skip",
+        Form::Set => b"set ",
+        Form::New => b"new ",
+        Form::Call => b"call ",
+        Form::Get => b"get ",
+        Form::Await => b"await ",
+        Form::If => b"if ",
+        Form::Else => b"else",
+        Form::Fi => b"fi",
+        Form::While => b"while ",
+        Form::Od => b"od",
+        Form::Return => b"return ",
     }
 }
 
-// A variable and a space.
-#[tactic(auto, using(terms::proofs::Moving::within_text))]
-fn target(limits: Limits, s: &[u8], at: usize) -> ReadVariable
-    ensures { result ≡ as_variable (closed 32 s.now (Leaves.variable limits s.now at)) }
+// A statement that has no arguments, read up to a place.
+fn alone(at: usize, statement: Statement) -> Parsed<(Statement, Arguments)>
+    ensures { result ≡ Ok (at, (statement, Answers.no_arguments)) }
 {
-    match leaves::variable(limits, s, at) {
-        ReadVariable::Bad(p) => ReadVariable::Bad(p),
-        ReadVariable::Got(p, x) => {
-            if leaves::byte_at(s, p) == b' ' {
-                ReadVariable::Got(p + 1, x)
-            } else {
-                ReadVariable::Bad(p)
-            }
-        }
-    }
+    Ok((at, (statement, Arguments::none())))
 }
 
-// The arguments after some, at most so many.
-#[tactic(auto, using(crate::proofs::Gathering::comma_none, crate::proofs::Gathering::comma_some, crate::proofs::Gathering::comma_zero, terms::proofs::Answers::value_bad, terms::proofs::Series::counted_fail, terms::proofs::Series::joined_stop, terms::proofs::Series::operator_within), unfolding(crate::specs::Vocabulary::Answers::as_list, terms::specs::Parsed::repeated))]
-fn gathered(
-    s: &[u8],
-    at: usize,
-    more: usize,
-    a: Arguments,
-    cells: &[i32],
+// What a code value is read in: its text, what its terms are worked out from, and how many classes there are.
+#[derive(Clone, Copy)]
+struct Reader<'t> {
+    text: &'t [u8],
+    classes: u32,
+    cells: &'t [i32],
     around: Around,
-) -> ReadList
-    requires { a.count + more + 1 < 2 ^ 64 }
-    ensures { result ≡ Answers.as_list (Readers.gathered_read cells.now around 0 s.now more at a) }
-{
-    let mut end = at;
-    let mut list = a;
-    let mut left = more;
-    while left > 0 {
-        if leaves::byte_at(s, end) != b',' {
-            return ReadList {
-                end: ReadWord::Got(end),
-                arguments: list,
-            };
-        }
-        match expressions::expression(s, end + 1, cells, around, expressions::BRACKETS) {
-            ReadValue::Bad(p) => {
-                return ReadList {
-                    end: ReadWord::Bad(p),
-                    arguments: no_arguments(),
-                };
-            }
-            ReadValue::Got(p, w) => {
-                list = with_one(list, w);
-                end = p;
-                left -= 1;
-            }
-        }
-    }
-    ReadList {
-        end: ReadWord::Got(end),
-        arguments: list,
-    }
+    ghost some_class: { 0 < classes },
 }
 
-// A space and a list of arguments, with at most so many after the first; or neither.
-#[tactic(auto, using(crate::proofs::Gathering::arguments_bad, crate::proofs::Gathering::arguments_got, crate::proofs::Gathering::arguments_none, terms::proofs::Answers::value_bad, terms::proofs::Answers::value_got, terms::proofs::Moving::within_text), unfolding(crate::specs::Vocabulary::Answers::as_list, crate::specs::Vocabulary::Answers::no_arguments))]
-fn arguments(s: &[u8], at: usize, more: usize, cells: &[i32], around: Around) -> ReadList
-    requires { more + 3 < 2 ^ 64 }
-    ensures { result ≡ Answers.as_list (Readers.arguments_read cells.now around 0 s.now more at) }
-{
-    if leaves::byte_at(s, at) != b' ' {
-        return ReadList {
-            end: ReadWord::Got(at),
-            arguments: no_arguments(),
-        };
-    }
-    match expressions::expression(s, at + 1, cells, around, expressions::BRACKETS) {
-        ReadValue::Bad(p) => ReadList {
-            end: ReadWord::Bad(p),
-            arguments: no_arguments(),
-        },
-        ReadValue::Got(p, w) => gathered(s, p, more, with_one(no_arguments(), w), cells, around),
-    }
-}
+impl Reader<'_> {
+    ghost use Rattle.code.specs.Vocabulary.Parts as Parts;
 
-// A statement without arguments that was read up to a place.
-fn plain(s: &[u8], at: usize, statement: Statement) -> ReadCode
-    ensures { result ≡ Answers.finished s.now at statement Answers.no_arguments }
-{
-    finished(s, at, statement, no_arguments())
-}
-
-// A form that is a word and an expression.
-#[tactic(auto, using(crate::proofs::Ending::put_refused, terms::proofs::Answers::value_bad))]
-fn valued(form: Valued, s: &[u8], at: usize, cells: &[i32], around: Around) -> ReadCode
-    ensures { result ≡ Answers.as_code (ended s.now (mapped (Reader.valued form) (expression_read cells.now around s.now brackets at))) }
-{
-    match expressions::expression(s, at, cells, around, expressions::BRACKETS) {
-        ReadValue::Bad(p) => refused(p),
-        ReadValue::Got(p, w) => match form {
-            Valued::If => plain(s, p, Statement::If(w)),
-            Valued::While => plain(s, p, Statement::While(w)),
-            Valued::Return => plain(s, p, Statement::Return(w)),
-        },
+    // An expression that begins with no bracket open.
+    fn expression(self, at: usize) -> Parsed<Option<i32>>
+        ensures { result ≡ as_result (Parts.expression self.entry at) }
+    {
+        expressions::expression(self.text, at, self.cells, self.around, BRACKETS)
     }
-}
 
-// "set X E"
-#[tactic(auto, using(crate::proofs::Ending::next_refused, terms::proofs::Answers::variable_bad), unfolding(crate::specs::Reader::rest, crate::specs::Reader::target))]
-fn set_form(s: &[u8], at: usize, cells: &[i32], around: Around) -> ReadCode
-    ensures { result ≡ Readers.rest_read cells.now around 0 s.now Form.Set at }
-{
-    match target(around.limits, s, at) {
-        ReadVariable::Bad(p) => refused(p),
-        ReadVariable::Got(p, x) => match expressions::expression(
-            s,
-            p,
-            cells,
-            around,
-            expressions::BRACKETS,
-        ) {
-            ReadValue::Bad(q) => refused(q),
-            ReadValue::Got(q, w) => plain(s, q, Statement::Set(x, w)),
-        },
+    // A guard that begins with no bracket open.
+    fn guard(self, at: usize) -> Parsed<Option<i32>>
+        ensures { result ≡ as_result (Parts.guard self.entry at) }
+    {
+        guards::guard(self.text, at, self.cells, self.around, BRACKETS)
     }
-}
 
-// "get X Y"
-#[tactic(auto, using(crate::proofs::Ending::next_refused, terms::proofs::Answers::variable_bad), unfolding(crate::specs::Reader::rest, crate::specs::Reader::target))]
-fn get_form(s: &[u8], at: usize, cells: &[i32], around: Around) -> ReadCode
-    ensures { result ≡ Readers.rest_read cells.now around 0 s.now Form.Get at }
-{
-    match target(around.limits, s, at) {
-        ReadVariable::Bad(p) => refused(p),
-        ReadVariable::Got(p, x) => match leaves::variable(around.limits, s, p) {
-            ReadVariable::Bad(q) => refused(q),
-            ReadVariable::Got(q, y) => plain(s, q, Statement::Get(x, y)),
-        },
+    // A variable below its limit.
+    fn variable(self, at: usize) -> Parsed<Variable>
+        ensures { result ≡ as_result (Parts.variable self.entry at) }
+    {
+        leaves::variable(self.around.limits, self.text, at)
     }
-}
 
-// "await G"
-#[tactic(auto, using(crate::proofs::Ending::put_refused, terms::proofs::Answers::value_bad), unfolding(crate::specs::Reader::rest))]
-fn await_form(s: &[u8], at: usize, cells: &[i32], around: Around) -> ReadCode
-    ensures { result ≡ Readers.rest_read cells.now around 0 s.now Form.Await at }
-{
-    match guards::guard(s, at, cells, around, expressions::BRACKETS) {
-        ReadValue::Bad(p) => refused(p),
-        ReadValue::Got(p, g) => plain(s, p, Statement::Await(g)),
-    }
-}
-
-// "new X K" or "new X K E,..": a class below `classes`, and any number of arguments.
-#[tactic(auto, using(crate::proofs::Ending::next_refused, terms::proofs::Answers::variable_bad), unfolding(crate::specs::Reader::rest, crate::specs::Reader::target))]
-fn new_form(s: &[u8], at: usize, classes: u32, cells: &[i32], around: Around) -> ReadCode
-    requires { 0 < classes }
-    ensures { result ≡ Readers.rest_read cells.now around classes s.now Form.New at }
-{
-    match target(around.limits, s, at) {
-        ReadVariable::Bad(p) => refused(p),
-        ReadVariable::Got(p, x) => match leaves::decimal(classes - 1, s, p) {
-            ReadNumber::Bad(q) => refused(q),
-            ReadNumber::Got(q, class) => listed(
-                s,
-                q,
-                s.len(),
-                Statement::New(x, class),
-                cells,
-                around,
-            ),
-        },
-    }
-}
-
-// A statement that is read up to its arguments, with at most so many after the first.
-#[tactic(auto, using(crate::proofs::Ending::list_bad, crate::proofs::Ending::list_got, crate::proofs::Listing::listed_bad, crate::proofs::Listing::listed_got))]
-fn listed(
-    s: &[u8],
-    at: usize,
-    more: usize,
-    statement: Statement,
-    cells: &[i32],
-    around: Around,
-) -> ReadCode
-    requires { more + 3 < 2 ^ 64 }
-    ensures { result ≡ Readers.listed_read cells.now around 0 s.now statement more at }
-{
-    let list = arguments(s, at, more, cells, around);
-    let end = list.end;
-    match end {
-        ReadWord::Bad(p) => refused(p),
-        ReadWord::Got(p) => finished(s, p, statement, list.arguments),
-    }
-}
-
-// An expression and a space.
-#[tactic(auto, using(terms::proofs::Moving::within_text))]
-fn spaced(s: &[u8], at: usize, cells: &[i32], around: Around) -> ReadValue
-    ensures { result ≡ as_value (closed 32 s.now (expression_read cells.now around s.now brackets at)) }
-{
-    match expressions::expression(s, at, cells, around, expressions::BRACKETS) {
-        ReadValue::Bad(p) => ReadValue::Bad(p),
-        ReadValue::Got(p, a) => {
-            if leaves::byte_at(s, p) == b' ' {
-                ReadValue::Got(p + 1, a)
-            } else {
-                ReadValue::Bad(p)
-            }
+    // A space alone.
+    fn space(self, at: usize) -> Result<usize, usize>
+        ensures { result ≡ as_place (word (32 ∷ []) self.entry.text.now at) }
+    {
+        if leaves::byte_at(self.text, at) == b' ' {
+            Ok(at + 1)
+        } else {
+            Err(at)
         }
     }
-}
 
-// "call X E J" or "call X E J E,..": 0 to 4 arguments.
-#[tactic(auto, using(crate::proofs::Ending::next_refused, terms::proofs::Answers::variable_bad), unfolding(crate::specs::Reader::rest, crate::specs::Reader::target))]
-fn call_form(s: &[u8], at: usize, cells: &[i32], around: Around) -> ReadCode
-    ensures { result ≡ Readers.rest_read cells.now around 0 s.now Form.Call at }
-{
-    match target(around.limits, s, at) {
-        ReadVariable::Bad(p) => refused(p),
-        ReadVariable::Got(p, x) => match spaced(s, p, cells, around) {
-            ReadValue::Bad(q) => refused(q),
-            ReadValue::Got(q, callee) => method(s, q, x, callee, cells, around),
-        },
+    // A variable and a space.
+    fn target(self, at: usize) -> Parsed<Variable>
+        ensures { result ≡ as_result (Parts.target self.entry at) }
+    {
+        let (at, x) = self.variable(at)?;
+        let at = self.space(at)?;
+        Ok((at, x))
     }
-}
 
-// The method of a `call`, and its arguments.
-#[tactic(auto, using(crate::proofs::Ending::next_refused, terms::proofs::Answers::number_bad))]
-fn method(
-    s: &[u8],
-    at: usize,
-    x: Variable,
-    callee: Worked,
-    cells: &[i32],
-    around: Around,
-) -> ReadCode
-    ensures { result ≡ Readers.method_read cells.now around 0 s.now x callee at }
-{
-    match leaves::decimal(LAST_METHOD, s, at) {
-        ReadNumber::Bad(p) => refused(p),
-        ReadNumber::Got(p, j) => listed(
-            s,
-            p,
-            ARGUMENTS_AFTER,
-            Statement::Call(x, callee, j),
-            cells,
-            around,
-        ),
+    // The arguments after some, at most so many.
+    fn more_arguments(self, at: usize, most: usize, first: Arguments) -> Parsed<Arguments>
+        requires { first.count + most + 1 < 2 ^ 64 }
+        ensures { result ≡ as_result (Parts.more_arguments self.entry most at first) }
+    {
+        let mut end = at;
+        let mut list = first;
+        for _ in 0..most {
+            if leaves::byte_at(self.text, end) != b',' {
+                break;
+            }
+            let (next, value) = self.expression(end + 1)?;
+            end = next;
+            list = list.with_one(value);
+        }
+        Ok((end, list))
     }
-}
 
-// What follows the word of a form.
-#[tactic(auto, unfolding(crate::specs::Reader::arguments, crate::specs::Reader::listed, crate::specs::Reader::operand, crate::specs::Reader::rest, crate::specs::Reader::target))]
-fn rest(form: Form, s: &[u8], at: usize, classes: u32, cells: &[i32], around: Around) -> ReadCode
-    requires { 0 < classes }
-    ensures { result ≡ Readers.rest_read cells.now around classes s.now form at }
-{
-    match form {
-        Form::Skip => plain(s, at, Statement::Skip),
-        Form::Set => set_form(s, at, cells, around),
-        Form::New => new_form(s, at, classes, cells, around),
-        Form::Call => call_form(s, at, cells, around),
-        Form::Get => get_form(s, at, cells, around),
-        Form::Await => await_form(s, at, cells, around),
-        Form::If => valued(Valued::If, s, at, cells, around),
-        Form::Else => plain(s, at, Statement::Else),
-        Form::Fi => plain(s, at, Statement::Fi),
-        Form::While => valued(Valued::While, s, at, cells, around),
-        Form::Od => plain(s, at, Statement::Od),
-        Form::Return => valued(Valued::Return, s, at, cells, around),
+    // A space and a list of arguments, with at most so many after the first; or neither.
+    fn arguments(self, at: usize, most: usize) -> Parsed<Arguments>
+        requires { most + 3 < 2 ^ 64 }
+        ensures { result ≡ as_result (Parts.arguments self.entry most at) }
+    {
+        if leaves::byte_at(self.text, at) != b' ' {
+            return Ok((at, Arguments::none()));
+        }
+        let (at, value) = self.expression(at + 1)?;
+        self.more_arguments(at, most, Arguments::none().with_one(value))
+    }
+
+    // "set X E"
+    fn set_form(self, at: usize) -> Parsed<(Statement, Arguments)>
+        ensures { result ≡ as_result (Parts.rest self.entry Form.Set at) }
+    {
+        let (at, x) = self.target(at)?;
+        let (at, value) = self.expression(at)?;
+        alone(at, Statement::Set(x, value))
+    }
+
+    // "new X K" or "new X K E,..": a class below `classes`, and any number of arguments.
+    fn new_form(self, at: usize) -> Parsed<(Statement, Arguments)>
+        ensures { result ≡ as_result (Parts.rest self.entry Form.New at) }
+    {
+        let (at, x) = self.target(at)?;
+        let (at, class) = leaves::decimal(self.classes - 1, self.text, at)?;
+        let (at, list) = self.arguments(at, self.text.len())?;
+        Ok((at, (Statement::New(x, class), list)))
+    }
+
+    // "call X E J" or "call X E J E,..": 0 to 4 arguments.
+    fn call_form(self, at: usize) -> Parsed<(Statement, Arguments)>
+        ensures { result ≡ as_result (Parts.rest self.entry Form.Call at) }
+    {
+        let (at, x) = self.target(at)?;
+        let (at, callee) = self.expression(at)?;
+        let at = self.space(at)?;
+        let (at, method) = leaves::decimal(LAST_METHOD, self.text, at)?;
+        let (at, list) = self.arguments(at, ARGUMENTS_AFTER)?;
+        Ok((at, (Statement::Call(x, callee, method), list)))
+    }
+
+    // "get X Y"
+    fn get_form(self, at: usize) -> Parsed<(Statement, Arguments)>
+        ensures { result ≡ as_result (Parts.rest self.entry Form.Get at) }
+    {
+        let (at, x) = self.target(at)?;
+        let (at, y) = self.variable(at)?;
+        alone(at, Statement::Get(x, y))
+    }
+
+    // "await G"
+    fn await_form(self, at: usize) -> Parsed<(Statement, Arguments)>
+        ensures { result ≡ as_result (Parts.rest self.entry Form.Await at) }
+    {
+        let (at, open) = self.guard(at)?;
+        alone(at, Statement::Await(open))
+    }
+
+    // "if E", "while E", "return E"
+    fn valued(self, form: Valued, at: usize) -> Parsed<(Statement, Arguments)>
+        ensures { result ≡ as_result (mapped Answers.said (mapped (Grammar.valued form) (Parts.expression self.entry at))) }
+    {
+        let (at, value) = self.expression(at)?;
+        match form {
+            Valued::If => alone(at, Statement::If(value)),
+            Valued::While => alone(at, Statement::While(value)),
+            Valued::Return => alone(at, Statement::Return(value)),
+        }
+    }
+
+    // What follows the word of a form.
+    fn rest(self, form: Form, at: usize) -> Parsed<(Statement, Arguments)>
+        ensures { result ≡ as_result (Parts.rest self.entry form at) }
+    {
+        match form {
+            Form::Skip => alone(at, Statement::Skip),
+            Form::Set => self.set_form(at),
+            Form::New => self.new_form(at),
+            Form::Call => self.call_form(at),
+            Form::Get => self.get_form(at),
+            Form::Await => self.await_form(at),
+            Form::If => self.valued(Valued::If, at),
+            Form::Else => alone(at, Statement::Else),
+            Form::Fi => alone(at, Statement::Fi),
+            Form::While => self.valued(Valued::While, at),
+            Form::Od => alone(at, Statement::Od),
+            Form::Return => self.valued(Valued::Return, at),
+        }
     }
 }
 
 // A code value: the statement that it is, with its values worked out, or the place of its refusal.
-#[tactic(auto, using(crate::proofs::Forms::form_none, crate::proofs::Forms::statement_none), unfolding(crate::specs::Vocabulary::Answers::as_code))]
 pub fn statement(s: &[u8], classes: u32, cells: &[i32], around: Around) -> ReadCode
     requires { 0 < classes }
     ensures { result ≡ Readers.statement_read cells.now around classes s.now }
 {
-    match form_of(s) {
-        FormFound::Nothing => refused(0),
-        FormFound::Is(form) => match word_of(form, s) {
-            ReadWord::Bad(p) => refused(p),
-            ReadWord::Got(p) => rest(form, s, p, classes, cells, around),
-        },
-    }
+    let form = form_of(s).ok_or(0usize)?;
+    let at = leaves::word(word_of(form), s, 0)?;
+    let reader = Reader {
+        text: s,
+        classes,
+        cells,
+        around,
+    };
+    let (end, read) = reader.rest(form, at)?;
+    if end == s.len() { Ok(read) } else { Err(end) }
 }

@@ -14,12 +14,12 @@ use model::judging;
 use rules::Choice;
 use text::Verdict;
 
-// A verdict has a number and a line, and nothing above them.
+// A verdict has a number and a line, and nothing above them. A function and no `From`: both types are other crates'.
 #[tactic(auto, unfolding(crate::specs::Vocabulary::Packed::packed))]
 fn packed(verdict: Verdict) -> u64
     ensures { result ≡ Packed.packed verdict }
 {
-    verdict.number as u64 + verdict.line as u64 * 0x1_0000
+    u64::from(verdict.number) + u64::from(verdict.line) * 0x1_0000
 }
 
 // The verdict on a text.
@@ -69,15 +69,9 @@ fn packed_drive(drove: Drove) -> u64
     requires { drove.steps ≤ most_steps }
     ensures { result ≡ Packed.packed_drive drove.verdict drove.steps drove.quiet }
 {
-    let verdict = drove.verdict;
-    let below = verdict.number as u64
-        + verdict.line as u64 * 0x1_0000
-        + drove.steps as u64 * 0x1_0000_0000;
-    if drove.quiet {
-        below + 0x1_0000_0000_0000
-    } else {
-        below
-    }
+    packed(drove.verdict)
+        + u64::from(drove.steps) * 0x1_0000_0000
+        + u64::from(drove.quiet) * 0x1_0000_0000_0000
 }
 
 // Drive: first accepted choices up to a budget, in the document's order.

@@ -13,7 +13,8 @@ use Rattle.terms.specs.Bytes.{Text, bytes}
 use Rattle.model.proofs.Session.{session_texts, session_with}
 use Rattle.cells.specs.Fresh.{fresh}
 use Rattle.rules.specs.declared.Choice.{Choice}
-use Rattle.rules.specs.Kinds.{exec, arrive, deliver, choose}
+use Rattle.rules.specs.declared.Kind.TheVariants as Kind
+use Rattle.rules.specs.Kinds.{choose}
 use Rattle.engine.specs.Drive.{most_steps}
 use Rattle.engine.specs.Entries.{Outcome, start, step, run, drive}
 use Rattle.engine.proofs.Open.{engine_open}
@@ -41,7 +42,7 @@ returned = written fresh ((call 1 value, pos 9) ∷ (call 1 stage, pos taken) �
 
 -- a choice that is refused with 12, one that is accepted, and one that is refused with 26
 choices : List Choice
-choices = choose exec 2 ∷ choose exec 1 ∷ choose deliver 1 ∷ []
+choices = choose Kind.Exec 2 ∷ choose Kind.Exec 1 ∷ choose Kind.Deliver 1 ∷ []
 
 -- answers as many as the choices, and one fewer
 three : List ℤ
@@ -67,14 +68,14 @@ first_table : List (Row Outcome)
 first_table =
     -- "Every entry judges the text first": whatever else is wrong
     (start bad_text short is leaving 3 24 short [])
-    ∷ (step bad_text short (choose exec 2) is leaving 3 24 short [])
+    ∷ (step bad_text short (choose Kind.Exec 2) is leaving 3 24 short [])
     ∷ (run bad_text short choices two is leaving 3 24 short two)
     ∷ (drive bad_text short (most_steps + 1) is leaving 3 24 short [])
     ∷ (run bad_text broken choices two is leaving 3 24 broken two)
     -- "then 10"
     ∷ (start good_text short is leaving 10 0 short [])
     ∷ (start good_text long is leaving 10 0 long [])
-    ∷ (step good_text long (choose exec 2) is leaving 10 0 long [])
+    ∷ (step good_text long (choose Kind.Exec 2) is leaving 10 0 long [])
     ∷ (run good_text short choices two is leaving 10 0 short two)
     ∷ (drive good_text short (most_steps + 1) is leaving 10 0 short [])
     ∷ []
@@ -87,7 +88,7 @@ then_table : List (Row Outcome)
 then_table =
     -- "then (start excepted) 11"
     (start good_text broken is leaving 0 0 fresh [])
-    ∷ (step good_text broken (choose exec 2) is leaving 11 0 broken [])
+    ∷ (step good_text broken (choose Kind.Exec 2) is leaving 11 0 broken [])
     ∷ (run good_text broken choices two is leaving 11 0 broken two)
     ∷ (run good_text broken choices three is leaving 11 0 broken three)
     ∷ (drive good_text broken (most_steps + 1) is leaving 11 0 broken [])
@@ -100,9 +101,9 @@ then_table =
     ∷ (drive good_text returned 0 is drove 0 returned)
     ∷ (drive good_text fresh 1 is drove 1 returned)
     -- "then the choice"
-    ∷ (step good_text fresh (choose exec 2) is leaving 12 0 fresh [])
-    ∷ (step good_text fresh (choose arrive 1) is leaving 20 0 fresh [])
-    ∷ (step good_text fresh (choose exec 1) is leaving 0 0 returned [])
+    ∷ (step good_text fresh (choose Kind.Exec 2) is leaving 12 0 fresh [])
+    ∷ (step good_text fresh (choose Kind.Arrive 1) is leaving 20 0 fresh [])
+    ∷ (step good_text fresh (choose Kind.Exec 1) is leaving 0 0 returned [])
     -- "12 and 20 to 33 inside a run fill only their own place in the answers"
     ∷ (run good_text fresh choices three is leaving 0 0 returned (pos 12 ∷ pos 0 ∷ pos 26 ∷ []))
     ∷ []

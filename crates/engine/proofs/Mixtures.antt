@@ -1,9 +1,9 @@
 -- Every mixture of entries is a run: after a start, whatever step, run and drive are asked with the same text, refused or not, the cells are those
 -- of some list of choices from the start. Assumes nothing.
+use Rattle.std.specs.Prelude.{Option, None, Some}
 use Prim.Native.Nat.{ℕ, zero, suc, ◌+◌}
 use mathlib.Core.Bool.{Bool, true, false}
 use mathlib.Core.List.{List, [], ◌∷◌, ◌++◌}
-use mathlib.Core.Option.{Option, none, some}
 use mathlib.Core.Path.{◌≡◌, refl, sym, ap, subst, ◌∙◌}
 use borrow.Author.Tests.{eq-eqb}
 use lib.Dec.{leb, eqb}
@@ -17,7 +17,7 @@ use Rattle.model.specs.Model.{Model}
 use Rattle.cells.specs.Configuration.{is_configuration}
 use Rattle.cells.specs.Fresh.{fresh}
 use Rattle.rules.specs.declared.Choice.{Choice}
-use Rattle.rules.specs.Kinds.{Kind}
+use Rattle.rules.specs.declared.Kind.{Kind}
 use Rattle.rules.specs.Next.{Next, refused, moved, cells_after}
 use Rattle.rules.specs.Step.{next}
 use Rattle.engine.specs.Drive.{most_steps, choices_in, first_accepted, driven}
@@ -41,13 +41,13 @@ unfolding run_cells
 stays m c d e = ([], e)
 
 -- the choice that a search finds leads to the cells that it gives
-found_next : (m : Model) (c : Cells) (choices : List Choice) (found : Choice × Cells) → first_accepted m c choices ≡ some found
+found_next : (m : Model) (c : Cells) (choices : List Choice) (found : Choice × Cells) → first_accepted m c choices ≡ Some found
     → found.1 ≡ cells_after c (next m c found.0)
 unfolding first_accepted
 found_next m c [] found e = cc
 found_next m c (choice ∷ choices) found e = go (next m c choice) refl (found_next m c choices found)
   where
-    go : (n : Next) → next m c choice ≡ n → (first_accepted m c choices ≡ some found → found.1 ≡ cells_after c (next m c found.0))
+    go : (n : Next) → next m c choice ≡ n → (first_accepted m c choices ≡ Some found → found.1 ≡ cells_after c (next m c found.0))
         → found.1 ≡ cells_after c (next m c found.0)
     go (refused i) f later = later (rw (f, first_accepted) at e)
     go (moved ws) f later =
@@ -62,8 +62,8 @@ drive_run m order (suc budget) steps c = go (first_accepted m c (choices_in orde
   where
     go : (f : Option (Choice × Cells)) → first_accepted m c (choices_in order c) ≡ f
         → ((d : Cells) → RunTo m d (driven m order budget (steps + 1) d).cells) → RunTo m c (driven m order (suc budget) steps c).cells
-    go none e later = ([], rw (e, driven))
-    go (some found) e later =
+    go None e later = ([], rw (e, driven))
+    go (Some found) e later =
         let r = later found.1 in (
           found.0 ∷ r.0,
           rw (e, driven) (r.1 ∙ ap (λ d. run_cells m d r.0) (found_next m c (choices_in order c) found e)),

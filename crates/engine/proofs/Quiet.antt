@@ -1,9 +1,9 @@
 -- Quiet speaks of all choices and of no order: a search in any order that has all five kinds finds none exactly then. Assumes nothing.
+use Rattle.std.specs.Prelude.{Option, None, Some}
 use Prim.Native.Nat.{ℕ, zero, suc, ◌+◌, ◌≤◌, ◌<◌}
 use mathlib.Core.Bool.{Bool, true, false, ◌&&◌, false≢true}
 use mathlib.Core.List.{List, [], ◌∷◌, ◌++◌}
 use mathlib.Core.Logic.{◌⊎◌, inl, inr}
-use mathlib.Core.Option.{Option, none, some}
 use mathlib.Core.Path.{◌≡◌, refl, sym, ap, subst, ◌∙◌}
 use native.Mathlib.Omega.{arith}
 use borrow.Author.Tests.{eqb-true, eqb-false}
@@ -14,9 +14,11 @@ use Rattle.layout.specs.Stages.{up_to}
 use Rattle.model.specs.Model.{Model}
 use Rattle.whole.proofs.Each.{each_to, to_each}
 use Rattle.rules.specs.declared.Choice.{Choice}
-use Rattle.rules.specs.Kinds.{Kind, exec, arrive, bind, start, deliver, kinds, kind_of, in_use, choose}
+use Rattle.rules.specs.declared.Kind.{Kind}
+use Rattle.rules.specs.declared.Kind.TheVariants as Kind
+use Rattle.rules.specs.Kinds.{kinds, kind_of, in_use, choose}
 use Rattle.rules.specs.Next.{Next, refused, moved}
-use Rattle.rules.specs.Step.{ruled, next}
+use Rattle.rules.specs.Step.{next}
 use Rattle.rules.proofs.Chosen.{next_chosen, up_to_some}
 use Rattle.engine.specs.Drive.{choices_of, choices_in, first_accepted, is_refused, quiet_at, quiet_in, is_quiet}
 
@@ -31,11 +33,11 @@ HasAll order = (k : Kind) → Has k order
 
 -- the kinds themselves have
 pub kinds_all : HasAll kinds
-kinds_all exec = inl refl
-kinds_all arrive = inr (inl refl)
-kinds_all bind = inr (inr (inl refl))
-kinds_all start = inr (inr (inr (inl refl)))
-kinds_all deliver = inr (inr (inr (inr (inl refl))))
+kinds_all Kind.Exec = inl refl
+kinds_all Kind.Arrive = inr (inl refl)
+kinds_all Kind.Bind = inr (inr (inl refl))
+kinds_all Kind.Start = inr (inr (inr (inl refl)))
+kinds_all Kind.Deliver = inr (inr (inr (inr (inl refl))))
 
 module _ (m : Model) (c : Cells) where
   -- a choice is refused, and every choice of a list is
@@ -55,7 +57,7 @@ module _ (m : Model) (c : Cells) where
       go (refused i) e r = rw (e, first_accepted)
       go (moved ws) e r = absurd (false≢true r)
 
-  finds_accepted : (choice : Choice) (choices : List Choice) → first_accepted m c (choice ∷ choices) ≡ none → Refused choice
+  finds_accepted : (choice : Choice) (choices : List Choice) → first_accepted m c (choice ∷ choices) ≡ None → Refused choice
   unfolding first_accepted is_refused
   finds_accepted choice choices f = go (next m c choice) refl
     where
@@ -64,13 +66,13 @@ module _ (m : Model) (c : Cells) where
       go (moved ws) e = cc (rw (e, first_accepted) at f)
 
   -- so it finds none exactly where every choice is refused
-  none_refused : (choices : List Choice) → first_accepted m c choices ≡ none → AllRefused choices
+  none_refused : (choices : List Choice) → first_accepted m c choices ≡ None → AllRefused choices
   none_refused [] f = tt
   none_refused (choice ∷ choices) f =
       let r = finds_accepted choice choices f in
       (r, none_refused choices (sym (past_refused choice choices r) ∙ f))
 
-  refused_none : (choices : List Choice) → AllRefused choices → first_accepted m c choices ≡ none
+  refused_none : (choices : List Choice) → AllRefused choices → first_accepted m c choices ≡ None
   unfolding first_accepted
   refused_none [] r = refl
   refused_none (choice ∷ choices) r = past_refused choice choices r.0 ∙ refused_none choices r.1
@@ -138,11 +140,11 @@ module _ (m : Model) (c : Cells) where
   quiet_each (j ∷ js) q = both (quiet_at m c j) (quiet_in m c js) (q j) (quiet_each js q)
 
   -- a search in any order that has all five kinds finds none exactly where the cells are quiet
-  pub quiet_found : (order : List Kind) → is_quiet m c ≡ true → first_accepted m c (choices_in order c) ≡ none
+  pub quiet_found : (order : List Kind) → is_quiet m c ≡ true → first_accepted m c (choices_in order c) ≡ None
   unfolding is_quiet
   quiet_found order q = refused_none (choices_in order c) (quiet_refused order (λ k. each_quiet kinds q k (kinds_all k)))
 
-  pub found_quiet : (order : List Kind) → HasAll order → first_accepted m c (choices_in order c) ≡ none → is_quiet m c ≡ true
+  pub found_quiet : (order : List Kind) → HasAll order → first_accepted m c (choices_in order c) ≡ None → is_quiet m c ≡ true
   unfolding is_quiet
   found_quiet order all f = quiet_each kinds (λ k. refused_quiet order (none_refused (choices_in order c) f) k (all k))
 
@@ -151,16 +153,16 @@ module _ (m : Model) (c : Cells) where
   unfolding is_quiet quiet_at next is_refused
   quiet_all q choice = by_kind (kind_of choice.kind) refl
     where
-      by_number : (k : Kind) → kind_of choice.kind ≡ some k → (f : Option ℕ) → up_to (in_use c k) choice.number ≡ f → is_refused (next m c choice) ≡ true
-      by_number k e none f = rw (e, next, f)
-      by_number k e (some n) f =
+      by_number : (k : Kind) → kind_of choice.kind ≡ Some k → (f : Option ℕ) → up_to (in_use c k) choice.number ≡ f → is_refused (next m c choice) ≡ true
+      by_number k e None f = rw (e, next, f)
+      by_number k e (Some n) f =
           let h = up_to_some (in_use c k) choice.number n f in
           let r = each_to _ (in_use c k) (each_quiet kinds q k (kinds_all k)) n h.0 h.1 in
           rw (e, next, f) (ap is_refused (sym (next_chosen m c k n h.0 h.1)) ∙ r)
 
       by_kind : (f : Option Kind) → kind_of choice.kind ≡ f → is_refused (next m c choice) ≡ true
-      by_kind none e = rw (e, next)
-      by_kind (some k) e = by_number k e (up_to (in_use c k) choice.number) refl
+      by_kind None e = rw (e, next)
+      by_kind (Some k) e = by_number k e (up_to (in_use c k) choice.number) refl
 
   pub all_quiet : ((choice : Choice) → is_refused (next m c choice) ≡ true) → is_quiet m c ≡ true
   unfolding is_quiet quiet_at

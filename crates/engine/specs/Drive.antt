@@ -1,11 +1,11 @@
 -- "Drive. With a budget 0..10,000 of accepted steps: each time the first accepted choice": over any order of the kinds. Assumes nothing.
-use Rattle.std.specs.Prelude.{ℕ, zero, suc, ◌+◌, Bool, true, false, ◌&&◌, List, [], ◌∷◌, ◌++◌}
-use Rattle.std.proofs.Math.Option.{Option, none, some}
+use Rattle.std.specs.Prelude.{ℕ, zero, suc, ◌+◌, Bool, true, false, ◌&&◌, List, [], ◌∷◌, ◌++◌, Option, None, Some}
 use Rattle.whole.specs.Plain.{all_to}
 use Rattle.layout.specs.Layout.{Cells}
 use Rattle.model.specs.Model.{Model}
 use Rattle.rules.specs.declared.Choice.{Choice}
-use Rattle.rules.specs.Kinds.{Kind, kinds, in_use, choose}
+use Rattle.rules.specs.declared.Kind.{Kind}
+use Rattle.rules.specs.Kinds.{kinds, in_use, choose}
 use Rattle.rules.specs.Next.{Next, refused, moved, cells_after}
 use Rattle.rules.specs.Step.{next}
 
@@ -29,9 +29,9 @@ choices_in (k ∷ ks) c = choices_of k (in_use c k) 1 ++ choices_in ks c
 
 -- the first accepted choice of a list, with the cells that it leads to
 unfoldable pub first_accepted : Model → Cells → List Choice → Option (Choice × Cells)
-first_accepted m c [] = none
+first_accepted m c [] = None
 first_accepted m c (choice ∷ choices) = elim (next m c choice) [
-  | moved ws ↦ some (choice, cells_after c (moved ws))
+  | moved ws ↦ Some (choice, cells_after c (moved ws))
   | refused n ↦ first_accepted m c choices
 ]
 
@@ -59,6 +59,6 @@ pub record Driven : Type 0 where
 unfoldable pub driven : Model → List Kind → ℕ → ℕ → Cells → Driven
 driven m order zero steps c = record { cells = c; steps = steps }
 driven m order (suc budget) steps c = elim (first_accepted m c (choices_in order c)) [
-  | none ↦ record { cells = c; steps = steps }
-  | some found ↦ driven m order budget (steps + 1) found.1
+  | None ↦ record { cells = c; steps = steps }
+  | Some found ↦ driven m order budget (steps + 1) found.1
 ]

@@ -10,7 +10,7 @@ use Rattle.model.specs.Model.{Model}
 use Rattle.cells.specs.Configuration.{is_configuration}
 use Rattle.cells.specs.Fresh.{fresh}
 use Rattle.rules.specs.declared.Choice.{Choice}
-use Rattle.rules.specs.Kinds.{Kind}
+use Rattle.rules.specs.declared.Kind.{Kind}
 use Rattle.rules.specs.Next.{answer_of}
 use Rattle.rules.specs.Step.{next}
 use Rattle.engine.specs.Run.{run_cells, run_answers}

@@ -3,7 +3,7 @@ use Rattle.std.specs.Prelude.{ℕ, List, [], ◌∷◌, ℤ}
 use Rattle.layout.specs.Layout.{Cells}
 use Rattle.terms.specs.Bytes.{Text}
 use Rattle.rules.specs.declared.Choice.{Choice}
-use Rattle.rules.specs.Kinds.{Kind}
+use Rattle.rules.specs.declared.Kind.{Kind}
 use Rattle.engine.specs.Entries.{step, run, drive_in}
 
 -- an entry that is asked after a start: step with its choice, run with its choices and the answers that it is lent, drive with its order of the

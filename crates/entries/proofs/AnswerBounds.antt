@@ -1,8 +1,8 @@
 -- An entry's verdict is small, whatever the text, the cells and the choice: its number is at most 33, and its line at most 32,769. Assumes nothing.
+use Rattle.std.specs.Prelude.{Option, None, Some}
 use Prim.Native.Nat.{ℕ, zero, suc, ◌+◌, ◌≤◌}
 use mathlib.Core.Bool.{Bool, true, false}
 use mathlib.Core.List.{List, []}
-use mathlib.Core.Option.{Option, none, some}
 use mathlib.Core.Path.{◌≡◌, refl, ap, subst, ◌∙◌}
 use native.Mathlib.Omega.{arith}
 use borrow.Author.Tests.{leb-true}
@@ -20,7 +20,7 @@ use Rattle.model.proofs.VerdictBounds.{judge_small}
 use Rattle.model.proofs.Verdicts.{judge_verdict}
 use Rattle.cells.specs.Configuration.{is_configuration}
 use Rattle.rules.specs.declared.Choice.{Choice}
-use Rattle.rules.specs.Kinds.{Kind}
+use Rattle.rules.specs.declared.Kind.{Kind}
 use Rattle.engine.specs.Drive.{most_steps, exec_first, Driven, driven, first_accepted, choices_in}
 use Rattle.engine.specs.Run.{run_cells, run_answers}
 use Rattle.engine.specs.Entries as Entries
@@ -101,9 +101,9 @@ driven_most m order zero steps c = omega arith
 driven_most m order (suc budget) steps c = by (driven_most m order budget (steps + 1)) (first_accepted m c (choices_in order c))
   where
     by : ((d : Cells) → (driven m order budget (steps + 1) d).steps ≤ steps + 1 + budget) → (f : Option (Choice × Cells))
-        → steps_of (elim f [ none ↦ record { cells = c; steps = steps } | some found ↦ driven m order budget (steps + 1) found.1 ]) ≤ steps + suc budget
-    by again none = omega arith
-    by again (some found) = omega (arith, again found.1)
+        → steps_of (elim f [ None ↦ record { cells = c; steps = steps } | Some found ↦ driven m order budget (steps + 1) found.1 ]) ≤ steps + suc budget
+    by again None = omega arith
+    by again (Some found) = omega (arith, again found.1)
 
 -- so its outcome has a small verdict and at most 10,000 steps
 abbrev Drove : Outcome → Type 0

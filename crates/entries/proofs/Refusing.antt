@@ -1,16 +1,14 @@
 -- A refusal has a number from 1 to 33, whatever the choice: so an answer of 0 is a move, and any other a refusal. Assumes nothing.
+use Rattle.std.specs.Prelude.{Option, None, Some}
 use Prim.Native.Nat.{ℕ, ◌≤◌}
 use mathlib.Core.Bool.{Bool, true, false}
 use mathlib.Core.List.{List, [], ◌∷◌}
 use mathlib.Core.Logic.{◌≢◌}
-use mathlib.Core.Option.{Option, none, some}
 use mathlib.Core.Path.{◌≡◌, refl, sym, ap, subst, ◌∙◌}
 use native.Mathlib.Omega.{arith}
 use lib.IntN.{ℤ}
 use Rattle.whole.specs.Refusals.{accepted}
-use Rattle.whole.specs.Whole.{is_true}
-use Rattle.whole.specs.declared.Worked.{Worked}
-use Rattle.whole.specs.declared.Worked.TheVariants.{Value, OutOfRange}
+use Rattle.whole.specs.Whole.{is_true, Worked}
 use Rattle.layout.specs.Layout.{Cells, Write, of_object, running_label}
 use Rattle.layout.specs.Stages.{up_to, object_of, label_of, reply_for}
 use Rattle.terms.specs.Values.{held}
@@ -20,7 +18,8 @@ use Rattle.model.specs.Model.{Model}
 use Rattle.cells.specs.Standing.{Standing, body_of, standing_of}
 use Rattle.rules.specs.declared.Choice.{Choice}
 use Rattle.rules.specs.Exec as Exec
-use Rattle.rules.specs.Kinds.{Kind, exec, arrive, bind, start, deliver, kind_of, in_use}
+use Rattle.rules.specs.declared.Kind.{Kind}
+use Rattle.rules.specs.Kinds.{kind_of, in_use}
 use Rattle.rules.specs.Messages as Messages
 use Rattle.rules.specs.Next.{Next, refused, moved, must, working, working_all, answer_of}
 use Rattle.rules.specs.Step.{ruled, next}
@@ -49,8 +48,8 @@ told_must false n k h s = told_refused n h
 
 told_working : (w : Worked) (k : ℤ → Next) → ((z : ℤ) → Told (k z)) → Told (working w k)
 unfolding working
-told_working (Value z) k h = h z
-told_working OutOfRange k h = told_refused _ (omega arith, omega arith)
+told_working (Some z) k h = h z
+told_working None k h = told_refused _ (omega arith, omega arith)
 
 told_all : (ws : List Worked) (k : List ℤ → Next) → ((zs : List ℤ) → Told (k zs)) → Told (working_all ws k)
 unfolding working_all
@@ -63,9 +62,9 @@ told_either true us vs = told_moved us
 told_either false us vs = told_moved vs
 
 -- with what was found, or a refusal
-told_found : {A : Type 0} (f : Option A) (n : ℕ) (k : A → Next) → Numbered n → ((a : A) → Told (k a)) → Told (elim f [ none ↦ refused n | some a ↦ k a ])
-told_found none n k h s = told_refused n h
-told_found (some a) n k h s = s a
+told_found : {A : Type 0} (f : Option A) (n : ℕ) (k : A → Next) → Numbered n → ((a : A) → Told (k a)) → Told (elim f [ None ↦ refused n | Some a ↦ k a ])
+told_found None n k h s = told_refused n h
+told_found (Some a) n k h s = s a
 
 -- a line performed
 module _ (m : Model) (c : Cells) (o l : ℕ) (at : Standing) where
@@ -99,15 +98,15 @@ module _ (m : Model) (c : Cells) (o l : ℕ) (at : Standing) where
 -- a rule
 told_ruled : (m : Model) (c : Cells) (k : Kind) (n : ℕ) → Told (ruled m c k n)
 unfolding ruled Exec.exec Messages.arrive Messages.bind Messages.start Messages.start_in Messages.deliver
-told_ruled m c exec n =
+told_ruled m c Kind.Exec n =
     told_found (label_of c (of_object c n running_label)) _ _ (omega arith, omega arith)
     (λ l. told_found (standing_of m c l) _ _ (omega arith, omega arith) (λ at. told_performed m c n l at _))
-told_ruled m c arrive n = told_must _ _ _ (omega arith, omega arith) (told_moved _)
-told_ruled m c bind n = told_must _ _ _ (omega arith, omega arith) (told_found (body_of m c n) _ _ (omega arith, omega arith) (λ b. told_moved _))
-told_ruled m c start n =
+told_ruled m c Kind.Arrive n = told_must _ _ _ (omega arith, omega arith) (told_moved _)
+told_ruled m c Kind.Bind n = told_must _ _ _ (omega arith, omega arith) (told_found (body_of m c n) _ _ (omega arith, omega arith) (λ b. told_moved _))
+told_ruled m c Kind.Start n =
     told_must _ _ _ (omega arith, omega arith)
     (told_must _ _ _ (omega arith, omega arith) (told_working _ _ (λ z. told_must _ _ _ (omega arith, omega arith) (told_moved _))))
-told_ruled m c deliver n = told_must _ _ _ (omega arith, omega arith) (told_moved _)
+told_ruled m c Kind.Deliver n = told_must _ _ _ (omega arith, omega arith) (told_moved _)
 
 -- a choice
 told_next : (m : Model) (c : Cells) (choice : Choice) → Told (next m c choice)

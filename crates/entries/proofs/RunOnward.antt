@@ -39,13 +39,13 @@ module _ (m : Model) (c : Cells) (choices : List Choice) where
   ran_none h b = record { configuration = h; cells = refl; answers = refl }
 
   -- one more, performed
-  pub ran_more : AcceptedModel m → (choice : Choice) (left : List Choice) (d : Cells) (b : List ℤ) (i : ℕ) → Ran m c choices (choice ∷ left) d b i → i < length b
-      → (e : Cells) (a : List ℤ) → (e ≡ cells_after d (next m d choice)) × (a ≡ set b i (pos (answer_of (next m d choice)))) → Ran m c choices left e a (i + 1)
+  pub ran_more : (choice : Choice) (left : List Choice) (d : Cells) (b : List ℤ) (i : ℕ) → Ran m c choices (choice ∷ left) d b i → i < length b
+      → (e : Cells) (a : List ℤ) → is_configuration m e ≡ true → (e ≡ cells_after d (next m d choice)) × (a ≡ set b i (pos (answer_of (next m d choice)))) → Ran m c choices left e a (i + 1)
   unfolding run_cells run_answers
-  ran_more accepted choice left d b i r h e a (was, told) =
+  ran_more choice left d b i r h e a kept (was, told) =
       let n = next m d choice in
       record {
-        configuration = ap (is_configuration m) was ∙ after_keeps m accepted d r.configuration choice;
+        configuration = kept;
         cells = ap (λ x. run_cells m x left) was ∙ r.cells;
         answers =
             ap₂ (λ xs x. xs ++ run_answers m x left) (ap₂ take (add-one i) told ∙ take-suc-set b i (pos (answer_of n)) h) was

@@ -1,49 +1,36 @@
--- A search for the first accepted choice, as the code goes: choice after choice of a kind's number, kind after kind of an order, step after
--- step of a drive. Assumes nothing.
+-- A search for the first accepted choice, as the code goes: choice after choice of a kind, kind after kind of an order, step after step of a
+-- drive. Assumes nothing.
+use Rattle.std.specs.Prelude.{Option, None, Some, is_ok, Ok, Err}
 use Prim.Native.Nat.{ℕ, zero, suc, ◌+◌, ◌-◌, ◌≤◌, ◌<◌}
 use mathlib.Core.Bool.{Bool, true, false, not, false≢true}
-use mathlib.Core.List.{List, [], ◌∷◌, ◌++◌, map}
-use mathlib.Core.Logic.{◌≢◌}
-use mathlib.Core.Option.{Option, none, some}
+use mathlib.Core.List.{List, [], ◌∷◌, ◌++◌}
 use mathlib.Core.Path.{◌≡◌, refl, sym, ap, subst, ◌∙◌}
 use native.Mathlib.Numerals.{add-one}
 use native.Mathlib.Omega.{arith}
-use borrow.Author.Tests.{eq-eqb, ne_eqb}
 use lib.IntN.{ℤ, pos}
 use lib.ListN.{length, get_or, drop, drop_of_length-le}
 use lib.Seq.{drop-cons}
-use Rattle.whole.specs.Refusals.{accepted, not_in_use}
+use Rattle.whole.specs.Vocabulary.Refusing.{Answer, number_given}
 use Rattle.layout.specs.Layout.{Cells, Write, written, object_rows, call_rows, all_cells}
 use Rattle.layout.specs.Stages.{objects_in_use, rows_in_use}
-use Rattle.model.specs.Accepted.{AcceptedModel}
 use Rattle.model.specs.Model.{Model}
 use Rattle.cells.specs.Configuration.{is_configuration}
 use Rattle.cells.proofs.Configured.{configured}
 use Rattle.rules.specs.declared.Choice.{Choice}
-use Rattle.rules.specs.Kinds.{Kind, exec, arrive, bind, start, deliver, kinds, kind_number, kind_of, in_use, choose}
+use Rattle.rules.specs.declared.Kind.{Kind}
+use Rattle.rules.specs.Kinds.{kinds, kind_number, in_use, choose}
 use Rattle.rules.specs.Next.{Next, refused, moved, cells_after}
 use Rattle.rules.specs.Step.{next}
-use Rattle.rules.proofs.Chosen.{kind_of_number}
-use Rattle.rules.proofs.Kept.{keeps}
 use Rattle.forms.specs.Vocabulary.Done.{Done}
 use Rattle.engine.specs.Drive.{choices_of, choices_in, first_accepted, Driven, driven, is_quiet}
 use Rattle.engine.proofs.Quiet.{kinds_all, quiet_found, found_quiet}
-use Rattle.entries.specs.Vocabulary.Searched.{kinds_of, count_of, choices_from, Led, First}
+use Rattle.entries.specs.Vocabulary.Searched.{Led, First}
+use Rattle.whole.proofs.Refusing.{number_refuses}
 use Rattle.entries.proofs.Refusing.{answer_moved, answer_refused}
-
--- the kinds of kinds' numbers are those kinds, and the document's order is of the numbers 1 to 5
-pub kinds_of_numbers : (ks : List Kind) → kinds_of (map kind_number ks) ≡ ks
-unfolding kinds_of
-kinds_of_numbers [] = refl
-kinds_of_numbers (k ∷ ks) = rw (kind_of_number k, kinds_of) (ap (λ js. k ∷ js) (kinds_of_numbers ks))
-
-pub all_numbers : kinds_of (1 ∷ 2 ∷ 3 ∷ 4 ∷ 5 ∷ []) ≡ kinds
-unfolding kind_number
-all_numbers = kinds_of_numbers kinds
 
 -- one step of a search: over a choice that moved, and over one that was refused
 module _ (m : Model) (c : Cells) (choice : Choice) (choices : List Choice) where
-  search_moved : (ws : List Write) → next m c choice ≡ moved ws → first_accepted m c (choice ∷ choices) ≡ some (choice, written c ws)
+  search_moved : (ws : List Write) → next m c choice ≡ moved ws → first_accepted m c (choice ∷ choices) ≡ Some (choice, written c ws)
   unfolding first_accepted cells_after
   search_moved ws e = rw (e, first_accepted)
 
@@ -53,137 +40,103 @@ module _ (m : Model) (c : Cells) (choice : Choice) (choices : List Choice) where
 
 -- over two lists, one behind the other
 module _ (m : Model) (c : Cells) where
-  two_none : (a b : List Choice) → first_accepted m c a ≡ none → first_accepted m c (a ++ b) ≡ first_accepted m c b
+  two_none : (a b : List Choice) → first_accepted m c a ≡ None → first_accepted m c (a ++ b) ≡ first_accepted m c b
   two_none [] b e = refl
   two_none (choice ∷ a) b e = go (next m c choice) refl (two_none a b)
     where
-      go : (n : Next) → next m c choice ≡ n → (first_accepted m c a ≡ none → first_accepted m c (a ++ b) ≡ first_accepted m c b)
+      go : (n : Next) → next m c choice ≡ n → (first_accepted m c a ≡ None → first_accepted m c (a ++ b) ≡ first_accepted m c b)
           → first_accepted m c (choice ∷ (a ++ b)) ≡ first_accepted m c b
       go (refused n) f later = search_refused m c choice (a ++ b) n f ∙ later (sym (search_refused m c choice a n f) ∙ e)
       go (moved ws) f later = let g = sym (search_moved m c choice a ws f) ∙ e in cc
 
-  two_some : (a b : List Choice) (found : Choice × Cells) → first_accepted m c a ≡ some found → first_accepted m c (a ++ b) ≡ some found
+  two_some : (a b : List Choice) (found : Choice × Cells) → first_accepted m c a ≡ Some found → first_accepted m c (a ++ b) ≡ Some found
   unfolding first_accepted
   two_some [] b found e = cc
   two_some (choice ∷ a) b found e = go (next m c choice) refl (two_some a b found)
     where
-      go : (n : Next) → next m c choice ≡ n → (first_accepted m c a ≡ some found → first_accepted m c (a ++ b) ≡ some found)
-          → first_accepted m c (choice ∷ (a ++ b)) ≡ some found
+      go : (n : Next) → next m c choice ≡ n → (first_accepted m c a ≡ Some found → first_accepted m c (a ++ b) ≡ Some found)
+          → first_accepted m c (choice ∷ (a ++ b)) ≡ Some found
       go (refused n) f later = search_refused m c choice (a ++ b) n f ∙ later (sym (search_refused m c choice a n f) ∙ e)
       go (moved ws) f later = search_moved m c choice (a ++ b) ws f ∙ sym (search_moved m c choice a ws f) ∙ e
 
 -- what a search found and left, by its answer
 module _ (f : Option (Choice × Cells)) (c : Cells) (r : Bool) (d : Cells) where
-  pub led_true : Led f c r d → r ≡ true → (found : Choice × Cells) × (f ≡ some found) × (d ≡ found.1)
+  pub led_true : Led f c r d → r ≡ true → (found : Choice × Cells) × (f ≡ Some found) × (d ≡ found.1)
   unfolding Led
   led_true h z = go f refl h
     where
-      go : (g : Option (Choice × Cells)) → f ≡ g → Led g c r d → (found : Choice × Cells) × (f ≡ some found) × (d ≡ found.1)
-      go none e h = absurd (false≢true (sym h.0 ∙ z))
-      go (some found) e h = (found, e, h.1)
+      go : (g : Option (Choice × Cells)) → f ≡ g → Led g c r d → (found : Choice × Cells) × (f ≡ Some found) × (d ≡ found.1)
+      go None e h = absurd (false≢true (sym h.0 ∙ z))
+      go (Some found) e h = (found, e, h.1)
 
-  pub led_false : Led f c r d → r ≡ false → (f ≡ none) × (d ≡ c)
+  pub led_false : Led f c r d → r ≡ false → (f ≡ None) × (d ≡ c)
   unfolding Led
   led_false h z = go f refl h
     where
-      go : (g : Option (Choice × Cells)) → f ≡ g → Led g c r d → (f ≡ none) × (d ≡ c)
-      go none e h = (e, h.1)
-      go (some found) e h = absurd (false≢true (sym z ∙ h.0))
+      go : (g : Option (Choice × Cells)) → f ≡ g → Led g c r d → (f ≡ None) × (d ≡ c)
+      go None e h = (e, h.1)
+      go (Some found) e h = absurd (false≢true (sym z ∙ h.0))
 
-  led_none : f ≡ none → r ≡ false → d ≡ c → Led f c r d
+  led_none : f ≡ None → r ≡ false → d ≡ c → Led f c r d
   unfolding Led
   led_none e z same = subst (λ g. Led g c r d) (sym e) (z, same)
 
-  led_some : (found : Choice × Cells) → f ≡ some found → r ≡ true → d ≡ found.1 → Led f c r d
+  led_some : (found : Choice × Cells) → f ≡ Some found → r ≡ true → d ≡ found.1 → Led f c r d
   unfolding Led
   led_some found e z to = subst (λ g. Led g c r d) (sym e) (z, to)
 
--- a choice performed, of the same cells and the same two numbers
-pub same_performed : (m : Model) (b c : Cells) (k j n i : ℤ) (answer : ℕ) (d : Cells) → b ≡ c → k ≡ j → n ≡ i
-    → Done b (next m b (record { kind = k; number = n })) answer d → Done c (next m c (record { kind = j; number = i })) answer d
-same_performed m b c k j n i answer d cells kind number h = rw (← cells, ← kind, ← number) h
+-- what the code answers to a choice: it moved, or it was refused
+module _ (m : Model) (c : Cells) (choice : Choice) (answer : Answer) (d : Cells) (done : Done c (next m c choice) answer d) where
+  it_moved : is_ok answer ≡ true → (ws : List Write) × ((next m c choice ≡ moved ws) × (d ≡ written c ws))
+  unfolding number_given cells_after
+  it_moved z = go answer refl
+    where
+      go : (a : Answer) → answer ≡ a → (ws : List Write) × ((next m c choice ≡ moved ws) × (d ≡ written c ws))
+      go (Ok u) e = let (ws, f) = answer_moved m c choice (number_given answer) done.0 (ap number_given e) in (ws, (f, done.1 ∙ ap (cells_after c) f))
+      go (Err r) e = absurd (false≢true (sym (ap is_ok e) ∙ z))
 
--- the choices of a kind's number from one on
-module _ (m : Model) (c : Cells) (kind count n : ℕ) (same : first_accepted m c (choices_from kind (count + 1 - n) n) ≡ first_accepted m c (choices_from kind count 1)) where
-  one_more_lem : n ≤ count → choices_from kind (count + 1 - n) n ≡ record { kind = pos kind; number = pos n } ∷ choices_from kind (count + 1 - (n + 1)) (n + 1)
-  unfolding choices_from
-  one_more_lem high = let e : count + 1 - n ≡ suc (count + 1 - (n + 1)) = omega arith in ap (λ more. choices_from kind more n) e
+  it_refused : is_ok answer ≡ false → (n : ℕ) × ((next m c choice ≡ refused n) × (d ≡ c))
+  unfolding number_given cells_after
+  it_refused z = go answer refl
+    where
+      go : (a : Answer) → answer ≡ a → (n : ℕ) × ((next m c choice ≡ refused n) × (d ≡ c))
+      go (Ok u) e = absurd (false≢true (sym z ∙ ap is_ok e))
+      go (Err r) e =
+          let (n, f) = answer_refused m c choice (number_given answer) done.0 (λ y. number_refuses r (sym (ap number_given e) ∙ y)) in
+          (n, (f, done.1 ∙ ap (cells_after c) f))
 
+-- the choices of a kind from one on
+module _ (m : Model) (c : Cells) (k : Kind) (count n : ℕ) (same : first_accepted m c (choices_of k (count + 1 - n) n) ≡ first_accepted m c (choices_of k count 1)) where
   -- the choice moved, was refused, and there is none left
-  module _ (high : n ≤ count) (answer : ℕ) (d : Cells) (done : Done c (next m c (record { kind = pos kind; number = pos n })) answer d) where
-    abbrev choice : Choice
-    choice = record { kind = pos kind; number = pos n }
+  module _ (high : n ≤ count) (b : Cells) (before : b ≡ c) (x y : ℤ) (kind : x ≡ pos (kind_number k)) (number : y ≡ pos n) (answer : Answer) (d : Cells)
+      (performed : Done b (next m b (record { kind = x; number = y })) answer d) where
+    done : Done c (next m c (choose k n)) answer d
+    unfolding choose
+    done = rw (← before, ← kind, ← number) performed
 
-    whole : first_accepted m c (choice ∷ choices_from kind (count + 1 - (n + 1)) (n + 1)) ≡ first_accepted m c (choices_from kind count 1)
-    whole = ap (first_accepted m c) (sym (one_more_lem high)) ∙ same
+    one_more : choices_of k (count + 1 - n) n ≡ choose k n ∷ choices_of k (count + 1 - (n + 1)) (n + 1)
+    unfolding choices_of
+    one_more = let e : count + 1 - n ≡ suc (count + 1 - (n + 1)) = omega arith in ap (λ more. choices_of k more n) e
 
-    pub of_moved : answer ≡ accepted → First m c (choices_from kind count 1) true d
-    unfolding cells_after
+    all : first_accepted m c (choose k n ∷ choices_of k (count + 1 - (n + 1)) (n + 1)) ≡ first_accepted m c (choices_of k count 1)
+    all = ap (first_accepted m c) (sym one_more) ∙ same
+
+    pub of_moved : is_ok answer ≡ true → First m c (choices_of k count 1) true d
     of_moved z =
-        let (ws, e) = answer_moved m c choice answer done.0 z in
-        led_some _ c true d (choice, written c ws) (sym whole ∙ search_moved m c choice _ ws e) refl (done.1 ∙ ap (cells_after c) e)
+        let (ws, (e, to)) = it_moved m c (choose k n) answer d done z in
+        led_some _ c true d (choose k n, written c ws) (sym all ∙ search_moved m c (choose k n) _ ws e) refl to
 
-    pub of_refused : answer ≢ accepted
-        → (d ≡ c) × (first_accepted m c (choices_from kind (count + 1 - (n + 1)) (n + 1)) ≡ first_accepted m c (choices_from kind count 1))
-    unfolding cells_after
+    pub of_refused : is_ok answer ≡ false
+        → (d ≡ c) × (first_accepted m c (choices_of k (count + 1 - (n + 1)) (n + 1)) ≡ first_accepted m c (choices_of k count 1))
     of_refused z =
-        let (i, e) = answer_refused m c choice answer done.0 z in
-        (done.1 ∙ ap (cells_after c) e, sym (search_refused m c choice _ i e) ∙ whole)
+        let (i, (e, still)) = it_refused m c (choose k n) answer d done z in
+        (still, sym (search_refused m c (choose k n) _ i e) ∙ all)
 
-  pub of_none : count < n → (d : Cells) → d ≡ c → First m c (choices_from kind count 1) false d
-  unfolding choices_from first_accepted
+  pub of_none : count < n → (d : Cells) → d ≡ c → First m c (choices_of k count 1) false d
+  unfolding choices_of first_accepted
   of_none past d still =
       let e : count + 1 - n ≡ 0 = omega arith in
-      led_none _ c false d (sym same ∙ ap (λ more. first_accepted m c (choices_from kind more n)) e) refl still
-
--- a number that is a kind's
-no_kind : (k : Kind) → ◌≡◌ {A = Option Kind} none (some k) → ⊥
-no_kind k e = let z : ◌≡◌ {A = ℕ} 0 1 = cc in omega arith
-
-number_of_kind : (n : ℕ) (k : Kind) → kind_of (pos n) ≡ some k → kind_number k ≡ n
-unfolding kind_of kind_number
-number_of_kind zero k e = absurd (no_kind k e)
-number_of_kind (suc zero) k e = let same : exec ≡ k = cc in ap kind_number (sym same)
-number_of_kind (suc (suc zero)) k e = let same : arrive ≡ k = cc in ap kind_number (sym same)
-number_of_kind (suc (suc (suc zero))) k e = let same : bind ≡ k = cc in ap kind_number (sym same)
-number_of_kind (suc (suc (suc (suc zero)))) k e = let same : start ≡ k = cc in ap kind_number (sym same)
-number_of_kind (suc (suc (suc (suc (suc zero))))) k e = let same : deliver ≡ k = cc in ap kind_number (sym same)
-number_of_kind (suc (suc (suc (suc (suc (suc n)))))) k e = absurd (no_kind k e)
-
-count_of_kind : (c : Cells) (k : Kind) → count_of c (kind_number k) ≡ in_use c k
-unfolding count_of in_use kind_number
-count_of_kind c exec = refl
-count_of_kind c arrive = refl
-count_of_kind c bind = refl
-count_of_kind c start = refl
-count_of_kind c deliver = refl
-
--- how many to choose from, by the test that the code asks
-module _ (c : Cells) (kind : ℕ) where
-  pub count_exec : kind ≡ 1 → count_of c kind ≡ objects_in_use c
-  unfolding count_of
-  count_exec e = rw (eq-eqb kind 1 e, count_of)
-
-  pub count_other : kind ≢ 1 → count_of c kind ≡ rows_in_use c
-  unfolding count_of
-  count_other e = rw (ne_eqb kind 1 e, count_of)
-
-choices_of_kind : (k : Kind) (more n : ℕ) → choices_from (kind_number k) more n ≡ choices_of k more n
-unfolding choices_from choices_of choose
-choices_of_kind k zero n = refl
-choices_of_kind k (suc more) n = ap (λ cs. choose k n ∷ cs) (choices_of_kind k more (n + 1))
-
--- and one that is none's: all its choices are refused
-not_in_use_lem : (m : Model) (c : Cells) (choice : Choice) → kind_of choice.kind ≡ none → next m c choice ≡ refused not_in_use
-unfolding next
-not_in_use_lem m c choice e = rw (e, next)
-
-none_of_number : (m : Model) (c : Cells) (kind : ℕ) → kind_of (pos kind) ≡ none → (more n : ℕ) → first_accepted m c (choices_from kind more n) ≡ none
-unfolding choices_from first_accepted
-none_of_number m c kind e zero n = refl
-none_of_number m c kind e (suc more) n =
-    search_refused m c (record { kind = pos kind; number = pos n }) (choices_from kind more (n + 1)) not_in_use (not_in_use_lem m c _ e)
-    ∙ none_of_number m c kind e more (n + 1)
+      led_none _ c false d (sym same ∙ ap (λ more. first_accepted m c (choices_of k more n)) e) refl still
 
 -- a configuration has all its cells, and few objects and few calls
 module _ (m : Model) (c : Cells) (conf : is_configuration m c ≡ true) where
@@ -199,118 +152,74 @@ module _ (m : Model) (c : Cells) (conf : is_configuration m c ≡ true) where
   few_calls = (configured m c conf).calls.most
 
 -- the kinds of an order from one on
-module _ (m : Model) (c : Cells) where
-  -- the first accepted choice of a kind's number
-  abbrev first_of : ℕ → Option (Choice × Cells)
-  first_of kind = first_accepted m c (choices_from kind (count_of c kind) 1)
+module _ (m : Model) (c : Cells) (order : List Kind) (i : ℕ) (same : first_accepted m c (choices_in (drop i order) c) ≡ first_accepted m c (choices_in order c)) where
+  module _ (below : i < length order) (k : Kind) (is : k ≡ get_or order i Kind.Exec) (b : Cells) (before : b ≡ c) (count : ℕ) (many : count ≡ in_use b k)
+      (r : Bool) (d : Cells) (left : First m b (choices_of k count 1) r d) where
+    led : First m c (choices_of k (in_use c k) 1) r d
+    led = let n : count ≡ in_use c k = many ∙ ap (λ b. in_use b k) before in subst (λ n. First m c (choices_of k n 1) r d) n (subst (λ b. First m b (choices_of k count 1) r d) before left)
 
-  -- what a kind's number has to choose from is what its kind has
-  of_kind : (kind : ℕ) (k : Kind) → kind_of (pos kind) ≡ some k → choices_from kind (count_of c kind) 1 ≡ choices_of k (in_use c k) 1
-  of_kind kind k e =
-      let n = number_of_kind kind k e in
-      ap (λ j. choices_from j (count_of c j) 1) (sym n) ∙ choices_of_kind k (count_of c (kind_number k)) 1
-      ∙ ap (λ more. choices_of k more 1) (count_of_kind c k)
+    cut : drop i order ≡ k ∷ drop (i + 1) order
+    cut = drop-cons order i Kind.Exec below ∙ ap (λ n. get_or order i Kind.Exec ∷ drop n order) (sym (add-one i)) ∙ ap (λ k. k ∷ drop (i + 1) order) (sym is)
 
-  number_passed : (kind : ℕ) (rest : List ℕ) → first_of kind ≡ none
-      → first_accepted m c (choices_in (kinds_of (kind ∷ rest)) c) ≡ first_accepted m c (choices_in (kinds_of rest) c)
-  unfolding kinds_of choices_in
-  number_passed kind rest f = go (kind_of (pos kind)) refl
-    where
-      go : (o : Option Kind) → kind_of (pos kind) ≡ o → first_accepted m c (choices_in (kinds_of (kind ∷ rest)) c) ≡ first_accepted m c (choices_in (kinds_of rest) c)
-      go none e = rw (e, kinds_of)
-      go (some k) e =
-          rw (e, kinds_of)
-          (two_none m c (choices_of k (in_use c k) 1) (choices_in (kinds_of rest) c) (ap (first_accepted m c) (sym (of_kind kind k e)) ∙ f))
+    all_kinds : first_accepted m c (choices_of k (in_use c k) 1 ++ choices_in (drop (i + 1) order) c) ≡ first_accepted m c (choices_in order c)
+    unfolding choices_in
+    all_kinds = ap (λ ks. first_accepted m c (choices_in ks c)) (sym cut) ∙ same
 
-  number_found : (kind : ℕ) (rest : List ℕ) (found : Choice × Cells) → first_of kind ≡ some found
-      → first_accepted m c (choices_in (kinds_of (kind ∷ rest)) c) ≡ some found
-  unfolding kinds_of choices_in
-  number_found kind rest found f = go (kind_of (pos kind)) refl
-    where
-      go : (o : Option Kind) → kind_of (pos kind) ≡ o → first_accepted m c (choices_in (kinds_of (kind ∷ rest)) c) ≡ some found
-      go none e = let g = sym (none_of_number m c kind e (count_of c kind) 1) ∙ f in cc
-      go (some k) e =
-          rw (e, kinds_of)
-          (two_some m c (choices_of k (in_use c k) 1) (choices_in (kinds_of rest) c) found (ap (first_accepted m c) (sym (of_kind kind k e)) ∙ f))
+    pub in_found : r ≡ true → First m c (choices_in order c) true d
+    in_found z =
+        let (found, f, to) = led_true _ c r d led z in
+        led_some _ c true d found (sym all_kinds ∙ two_some m c _ (choices_in (drop (i + 1) order) c) found f) refl to
 
-  module _ (order : List ℕ) (i : ℕ) (same : first_accepted m c (choices_in (kinds_of (drop i order)) c) ≡ first_accepted m c (choices_in (kinds_of order) c)) where
-    module _ (below : i < length order) (count : ℕ) (is : count ≡ count_of c (get_or order i 0)) (r : Bool) (d : Cells) (led : First m c (choices_from (get_or order i 0) count 1) r d) where
-      cut : drop i order ≡ get_or order i 0 ∷ drop (i + 1) order
-      cut = drop-cons order i 0 below ∙ ap (λ n. get_or order i 0 ∷ drop n order) (sym (add-one i))
+    pub in_passed : r ≡ false → (d ≡ c) × (first_accepted m c (choices_in (drop (i + 1) order) c) ≡ first_accepted m c (choices_in order c))
+    in_passed z =
+        let (f, still) = led_false _ c r d led z in
+        (still, sym (two_none m c _ (choices_in (drop (i + 1) order) c) f) ∙ all_kinds)
 
-      of_this : First m c (choices_from (get_or order i 0) (count_of c (get_or order i 0)) 1) r d
-      of_this = subst (λ n. First m c (choices_from (get_or order i 0) n 1) r d) is led
-
-      pub in_found : r ≡ true → First m c (choices_in (kinds_of order) c) true d
-      in_found z =
-          let (found, f, to) = led_true _ c r d of_this z in
-          led_some _ c true d found
-          (sym same ∙ ap (λ ns. first_accepted m c (choices_in (kinds_of ns) c)) cut ∙ number_found (get_or order i 0) (drop (i + 1) order) found f)
-          refl to
-
-      pub in_passed : r ≡ false → (d ≡ c) × (first_accepted m c (choices_in (kinds_of (drop (i + 1) order)) c) ≡ first_accepted m c (choices_in (kinds_of order) c))
-      in_passed z =
-          let (f, still) = led_false _ c r d of_this z in (
-            still,
-            sym (number_passed (get_or order i 0) (drop (i + 1) order) f) ∙ ap (λ ns. first_accepted m c (choices_in (kinds_of ns) c)) (sym cut) ∙ same,
-          )
-
-    pub in_none : length order ≤ i → (d : Cells) → d ≡ c → First m c (choices_in (kinds_of order) c) false d
-    unfolding kinds_of choices_in first_accepted
-    in_none past d still =
-        led_none _ c false d
-        (sym same ∙ ap (λ ns. first_accepted m c (choices_in (kinds_of ns) c)) (drop_of_length-le order past))
-        refl still
+  pub in_none : length order ≤ i → (d : Cells) → d ≡ c → First m c (choices_in order c) false d
+  unfolding choices_in first_accepted
+  in_none past d still = led_none _ c false d (sym same ∙ ap (λ ks. first_accepted m c (choices_in ks c)) (drop_of_length-le order past)) refl still
 
 -- quiet: a search over all kinds finds none exactly then
-pub quiet_led : (m : Model) (c : Cells) (order : List ℕ) → kinds_of order ≡ kinds → (r : Bool) (d : Cells) → First m c (choices_in (kinds_of order) c) r d
-    → not r ≡ is_quiet m c
-quiet_led m c order is true d h = go (is_quiet m c) refl
+pub quiet_led : (m : Model) (c : Cells) (r : Bool) (d : Cells) → First m c (choices_in kinds c) r d → not r ≡ is_quiet m c
+quiet_led m c true d h = go (is_quiet m c) refl
   where
     go : (b : Bool) → is_quiet m c ≡ b → false ≡ is_quiet m c
     go true e =
         let (found, f, to) = led_true _ c true d h refl in
-        let g = sym f ∙ quiet_found m c (kinds_of order) e in
+        let g = sym f ∙ quiet_found m c kinds e in
         cc
     go false e = sym e
-quiet_led m c order is false d h =
+quiet_led m c false d h =
     let (f, still) = led_false _ c false d h refl in
-    sym (found_quiet m c kinds kinds_all (ap (λ ks. first_accepted m c (choices_in ks c)) (sym is) ∙ f))
-
--- the cells that a search leads to are a configuration, as those before are
-pub found_keeps : (m : Model) → AcceptedModel m → (c : Cells) → is_configuration m c ≡ true → (choices : List Choice) (found : Choice × Cells)
-    → first_accepted m c choices ≡ some found → is_configuration m found.1 ≡ true
-unfolding first_accepted
-found_keeps m ok c conf [] found e = cc
-found_keeps m ok c conf (choice ∷ choices) found e = go (next m c choice) refl (found_keeps m ok c conf choices found)
-  where
-    go : (n : Next) → next m c choice ≡ n → (first_accepted m c choices ≡ some found → is_configuration m found.1 ≡ true) → is_configuration m found.1 ≡ true
-    go (refused n) f later = later (sym (search_refused m c choice choices n f) ∙ e)
-    go (moved ws) f later =
-        let g : some (choice, written c ws) ≡ some found = sym (search_moved m c choice choices ws f) ∙ e in
-        let h : (choice, written c ws) ≡ found = cc in
-        subst (λ (p : Choice × Cells). is_configuration m p.1 ≡ true) h (keeps m ok c conf choice ws f)
+    sym (found_quiet m c kinds kinds_all f)
 
 -- a drive from where so many steps are taken
 module _ (m : Model) (order : List Kind) (budget taken : ℕ) (c : Cells) (whole : Driven) (same : driven m order (budget - taken) taken c ≡ whole) where
-  ends : (left : ℕ) → first_accepted m c (choices_in order c) ≡ none → driven m order left taken c ≡ record { cells = c; steps = taken }
+  ends : (left : ℕ) → first_accepted m c (choices_in order c) ≡ None → driven m order left taken c ≡ record { cells = c; steps = taken }
   unfolding driven
   ends zero f = refl
   ends (suc left) f = rw (f, driven)
 
-  -- none is accepted, one is, and the budget is used up
-  pub steps_end : first_accepted m c (choices_in order c) ≡ none → (taken ≡ whole.steps) × (c ≡ whole.cells)
-  steps_end f = let e = sym (ends (budget - taken) f) ∙ same in (ap (λ (w : Driven). w.steps) e, ap (λ (w : Driven). w.cells) e)
-
-  pub steps_onward : taken < budget → (found : Choice × Cells) → first_accepted m c (choices_in order c) ≡ some found
-      → driven m order (budget - (taken + 1)) (taken + 1) found.1 ≡ whole
+  goes_on : (found : Choice × Cells) → first_accepted m c (choices_in order c) ≡ Some found → (left : ℕ)
+      → driven m order (suc left) taken c ≡ driven m order left (taken + 1) found.1
   unfolding driven
-  steps_onward below found f =
-      let e : budget - taken ≡ suc (budget - (taken + 1)) = omega arith in
-      sym (ap (λ left. driven m order left taken c) e ∙ one (budget - (taken + 1))) ∙ same
-    where
-      one : (left : ℕ) → driven m order (suc left) taken c ≡ driven m order left (taken + 1) found.1
-      one left = rw (f, driven)
+  goes_on found f left = rw (f, driven)
+
+  module _ (r : Bool) (d : Cells) (led : First m c (choices_in order c) r d) where
+    -- none is accepted, one is, and the budget is used up
+    pub steps_end : r ≡ false → (taken ≡ whole.steps) × (d ≡ whole.cells)
+    steps_end z =
+        let (f, still) = led_false _ c r d led z in
+        let e = sym (ends (budget - taken) f) ∙ same in
+        (ap (λ (w : Driven). w.steps) e, still ∙ ap (λ (w : Driven). w.cells) e)
+
+    pub steps_onward : taken < budget → r ≡ true → driven m order (budget - (taken + 1)) (taken + 1) d ≡ whole
+    steps_onward below z =
+        let (found, f, to) = led_true _ c r d led z in
+        let e : budget - taken ≡ suc (budget - (taken + 1)) = omega arith in
+        ap (driven m order (budget - (taken + 1)) (taken + 1)) to
+        ∙ sym (ap (λ left. driven m order left taken c) e ∙ goes_on found f (budget - (taken + 1)))
+        ∙ same
 
   pub steps_done : budget ≤ taken → (taken ≡ whole.steps) × (c ≡ whole.cells)
   unfolding driven

@@ -1,21 +1,26 @@
 // The entries start, step, run and drive: the text judged first, then 10, then (start excepted) 11, then 13 or 14, then the choice.
 #![tactic(auto)]
 
-ghost use Rattle.std.specs.Prelude.{◌≡◌, pos, length, replicate};
+ghost use Rattle.std.specs.Prelude.{◌≡◌, ◌≢◌, true, length, IfOk, OnOk, IfErr};
 ghost use Rattle.whole.specs.Refusals as Refusals;
 ghost use Rattle.layout.specs.Layout as Layout;
+ghost use Rattle.model.specs.Judge as Judge;
 ghost use Rattle.model.specs.Vocabulary.Known as Known;
-ghost use Rattle.model.specs.Vocabulary.Table as Table;
+ghost use Rattle.cells.specs.Configuration.{is_configuration};
 ghost use Rattle.cells.specs.Fresh.{fresh};
+ghost use Rattle.rules.specs.Step as Step;
+ghost use Rattle.forms.specs.Vocabulary.Done.{Done};
 ghost use Rattle.engine.specs.Entries as Entries;
 ghost use Rattle.entries.specs.Vocabulary.Checked as Checked;
 
 use layout::writers::NewCall;
 use layout::{ObjectNumber, stages, writers};
-use model::{judging, table};
+use lookup::program::Program;
+use model::{Rows, judging};
 use rules::Choice;
 use text::Verdict;
 use whole::refusals;
+use whole::refusals::Refusal;
 
 pub mod driving;
 pub mod running;
@@ -23,15 +28,18 @@ pub mod running;
 // "2,370 cells"
 const ALL_CELLS: usize = 2370;
 
-// Every cell 0.
-fn clear(cells: &mut [i32])
-    ensures { cells.new ≡ replicate (length cells.old) (pos 0) }
+// "0 is acceptance", and it names no line.
+const ACCEPTED: Verdict = Verdict {
+    number: refusals::ACCEPTED,
+    line: 0,
+};
+
+// The verdict of an entry that was refused, or was not.
+#[tactic(auto, unfolding(engine::specs::Entries::at_no_line))]
+fn verdict_of<T: Drop>(outcome: Result<T, Verdict>) -> Verdict
+    ensures { result ≡ Checked.verdict_of outcome }
 {
-    let mut i = 0;
-    while i < cells.len() {
-        cells[i] = 0;
-        i += 1;
-    }
+    outcome.err().unwrap_or(ACCEPTED)
 }
 
 // "Start writes: one object of class 0, attributes 0, running label 1; call 1 with caller 0, callee 1, method 0, stage 4, the rest 0."
@@ -39,7 +47,7 @@ fn write_fresh(cells: &mut [i32])
     requires { length cells.old ≡ Layout.all_cells }
     ensures { cells.new ≡ fresh }
 {
-    clear(cells);
+    cells.fill(0);
     writers::to_objects(cells, 1);
     writers::to_calls(cells, 1);
     let none = [0; 8];
@@ -54,57 +62,67 @@ fn write_fresh(cells: &mut [i32])
     writers::new_call(cells, 1, call, &none)
 }
 
-// The text, then 10: accepted, or the verdict that every entry then gives.
-#[tactic(auto, using(crate::proofs::Outcomes::all_there, crate::proofs::Outcomes::not_all, crate::proofs::Outcomes::text_refused, model::proofs::Knowing::known), unfolding(engine::specs::Entries::at_no_line))]
-fn on_model(text: &[u8], table: &mut [u16], shapes: &mut [u8], cells: &[i32]) -> Verdict
-    requires { Table.Sized table.old shapes.old }
-    ensures { Checked.OnModel text.now table.new shapes.new cells.now result }
+// One choice of a configuration, which stays one.
+fn next(program: &Program<'_>, cells: &mut [i32], choice: Choice) -> Result<(), Refusal>
+    requires cells_value { is_configuration (Known.model_of program.now.text) cells.old ≡ true }
+    ensures done { Done cells.old (Step.next (Known.model_of program.now.text) cells.old choice) result cells.new }
+    ensures configuration { is_configuration (Known.model_of program.now.text) cells.new ≡ true }
 {
-    let verdict = judging::read(text, table, shapes);
-    if verdict.number != refusals::ACCEPTED {
-        return verdict;
-    }
+    // a field is named, so that the proof knows of the program that its text is accepted
+    let _text = program.text;
+    performing::next(program, cells, choice)
+}
+
+// The text, then 10: the program, or the verdict that every entry then gives.
+#[tactic(auto, using(crate::proofs::Outcomes::not_all), unfolding(engine::specs::Entries::at_no_line, whole::specs::Vocabulary::Refusing::number_of))]
+fn on_model<'t>(text: &'t [u8], rows: &'t mut Rows, cells: &[i32]) -> Result<Program<'t>, Verdict>
+    ensures refused { IfErr result (Checked.Refuses (Entries.on_model text.now cells.now) cells.now) }
+    ensures goes_on { IfOk result (λ program. Checked.GoesOn (Entries.on_model text.now cells.now) (Known.model_of program.text)) }
+    ensures all { OnOk result (length cells.now ≡ Layout.all_cells) }
+    ensures accepted { OnOk result (Judge.judged text.now ≡ Judge.model (Known.model_of text.now)) }
+    ensures of_text { IfOk result (λ program. program.text ≡ text.now) }
+{
+    judging::read(text, rows)?;
     if cells.len() != ALL_CELLS {
-        return Verdict {
-            number: refusals::CELLS_NOT_ALL,
-            line: 0,
-        };
+        return Err(Verdict::from(Refusal::CellsNotAll));
     }
-    verdict
+    Ok(Program { text, rows })
 }
 
 // Then 11.
-#[tactic(auto, using(crate::proofs::Outcomes::configuration, crate::proofs::Outcomes::no_configuration_lem, crate::proofs::Outcomes::stopped), unfolding(engine::specs::Entries::at_no_line))]
-fn on_configuration(text: &[u8], table: &mut [u16], shapes: &mut [u8], cells: &[i32]) -> Verdict
-    requires { Table.Sized table.old shapes.old }
-    ensures { Checked.OnConfiguration text.now table.new shapes.new cells.now result }
+#[tactic(auto, using(crate::proofs::Outcomes::configured, crate::proofs::Outcomes::not_configured), unfolding(engine::specs::Entries::at_no_line, whole::specs::Vocabulary::Refusing::number_of))]
+fn on_configuration<'t>(
+    text: &'t [u8],
+    rows: &'t mut Rows,
+    cells: &[i32],
+) -> Result<Program<'t>, Verdict>
+    ensures refused { IfErr result (Checked.Refuses (Entries.on_configuration text.now cells.now) cells.now) }
+    ensures goes_on { IfOk result (λ program. Checked.GoesOn (Entries.on_configuration text.now cells.now) (Known.model_of program.text)) }
+    ensures configuration { IfOk result (λ program. is_configuration (Known.model_of program.text) cells.now ≡ true) }
 {
-    let verdict = on_model(text, table, shapes, cells);
-    if verdict.number != refusals::ACCEPTED {
-        return verdict;
+    let program = on_model(text, rows, cells)?;
+    if !checking::is_configuration(&program, cells) {
+        return Err(Verdict::from(Refusal::NoConfiguration));
     }
-    if checking::is_configuration(text, table, shapes, cells) {
-        return verdict;
-    }
-    Verdict {
-        number: refusals::NO_CONFIGURATION,
-        line: 0,
-    }
+    Ok(program)
 }
 
-// Start, with the table and the shapes in memory that is lent: of an accepted text they serve the steps after it.
-#[tactic(auto, using(crate::proofs::Outcomes::start_accepted, crate::proofs::Outcomes::start_refused))]
-pub fn start_in(text: &[u8], table: &mut [u16], shapes: &mut [u8], cells: &mut [i32]) -> Verdict
-    requires { Table.Sized table.old shapes.old }
-    ensures value { result ≡ (Entries.start text.now cells.old).verdict }
+/// Start, with the rows in memory that is lent: of an accepted text the program serves the steps after it.
+pub fn start_in<'t>(
+    text: &'t [u8],
+    rows: &'t mut Rows,
+    cells: &mut [i32],
+) -> Result<Program<'t>, Verdict>
+    ensures value { Checked.verdict_of result ≡ (Entries.start text.now cells.old).verdict }
+    ensures refused { IfErr result (λ v. v.number ≢ Refusals.accepted) }
+    ensures accepted { OnOk result (Judge.judged text.now ≡ Judge.model (Known.model_of text.now)) }
+    ensures of_text { IfOk result (λ program. program.text ≡ text.now) }
+    ensures configuration { OnOk result (is_configuration (Known.model_of text.now) cells.new ≡ true) }
     ensures cells_after { cells.new ≡ (Entries.start text.now cells.old).cells }
-    ensures known { result.number ≡ Refusals.accepted → Known.Known text.now table.new shapes.new }
 {
-    let verdict = on_model(text, table, shapes, cells);
-    if verdict.number == refusals::ACCEPTED {
-        write_fresh(cells);
-    }
-    verdict
+    let program = on_model(text, rows, cells)?;
+    write_fresh(cells);
+    Ok(program)
 }
 
 // Start: every cell is written, whatever it held.
@@ -112,25 +130,25 @@ pub fn start(text: &[u8], cells: &mut [i32]) -> Verdict
     ensures value { result ≡ (Entries.start text.now cells.old).verdict }
     ensures cells_after { cells.new ≡ (Entries.start text.now cells.old).cells }
 {
-    let mut rows = [0; table::SIZE];
-    let mut shapes = [0; table::LINES];
-    start_in(text, &mut rows, &mut shapes, cells)
+    let mut rows = Rows::new();
+    verdict_of(start_in(text, &mut rows, cells))
+}
+
+// One choice of a text's own cells.
+fn stepped(text: &[u8], cells: &mut [i32], choice: Choice) -> Result<(), Verdict>
+    ensures value { Checked.verdict_of result ≡ (Entries.step text.now cells.old choice).verdict }
+    ensures cells_after { cells.new ≡ (Entries.step text.now cells.old choice).cells }
+{
+    let mut rows = Rows::new();
+    let program = on_configuration(text, &mut rows, cells)?;
+    next(&program, cells, choice)?;
+    Ok(())
 }
 
 // Step: one choice, whose answer is the entry's own.
-#[tactic(auto, using(crate::proofs::Outcomes::step_refused))]
 pub fn step(text: &[u8], cells: &mut [i32], choice: Choice) -> Verdict
     ensures value { result ≡ (Entries.step text.now cells.old choice).verdict }
     ensures cells_after { cells.new ≡ (Entries.step text.now cells.old choice).cells }
 {
-    let mut rows = [0; table::SIZE];
-    let mut shapes = [0; table::LINES];
-    let verdict = on_configuration(text, &mut rows, &mut shapes, cells);
-    if verdict.number != refusals::ACCEPTED {
-        return verdict;
-    }
-    Verdict {
-        number: performing::next(text, &rows, &shapes, cells, choice),
-        line: 0,
-    }
+    verdict_of(stepped(text, cells, choice))
 }

@@ -1,15 +1,15 @@
 -- Arguments as the code gathers them tell what the definition does with them: either each has a value, and the values are these, with 0 for
 -- those that are missing, or one is out of range. Assumes nothing.
+use Rattle.std.specs.Prelude.{Some, None, option_map}
 use Prim.Native.Nat.{ℕ, zero, suc, ◌≤◌}
-use mathlib.Core.Bool.{true, false, false≢true}
 use mathlib.Core.List.{List, [], ◌∷◌, ◌++◌, append_assoc, append-nil}
 use mathlib.Core.Path.{◌≡◌, refl, sym, ap, ap₂, ◌∙◌}
 use native.Mathlib.Omega.{arith}
 use lib.IntN.{ℤ, pos}
 use lib.ListN.{length, set, take, replicate, length-append}
-use Rattle.whole.specs.declared.Worked.{Worked}
-use Rattle.whole.specs.declared.Worked.TheVariants.{Value, OutOfRange}
+use Rattle.whole.specs.Whole.{Worked}
 use Rattle.whole.specs.Refusals.{out_of_range}
+use Rattle.whole.proofs.Tested.{no_some}
 use Rattle.layout.specs.Layout.{padded}
 use Rattle.code.specs.declared.Arguments.{Arguments}
 use Rattle.code.specs.Vocabulary.Answers.{no_arguments, with_one, gathered}
@@ -37,46 +37,47 @@ padded_more n ys z = set_after n n ys z (omega arith)
 pub record Gathers (ws : List Worked) (ys : List ℤ) (g : Arguments) : Type 0 where
   pub zs : List ℤ
   pub works : (k : List ℤ → Next) → working_all ws k ≡ k zs
-  pub values : g.values ≡ padded 8 (ys ++ zs)
+  pub values : g.values ≡ Some (padded 8 (ys ++ zs))
   pub count : g.count ≡ length (ys ++ zs)
 
--- once one is out of range, they do not fit
-unfit_stays : (a : Arguments) (ws : List Worked) → a.fit ≡ false → (gathered a ws).fit ≡ false
+-- once one is out of range, they have no values
+unfit_stays : (a : Arguments) (ws : List Worked) → a.values ≡ None → (gathered a ws).values ≡ None
 unfolding gathered with_one
 unfit_stays a [] e = e
-unfit_stays a (Value z ∷ ws) e = unfit_stays (with_one a (Value z)) ws e
-unfit_stays a (OutOfRange ∷ ws) e = unfit_stays (with_one a OutOfRange) ws refl
+unfit_stays a (Some z ∷ ws) e = unfit_stays (with_one a (Some z)) ws (ap (option_map (λ zs. set zs a.count z)) e)
+unfit_stays a (None ∷ ws) e = unfit_stays (with_one a None) ws refl
 
--- some that fit, gathered after others
-fit_after : (a : Arguments) (ys : List ℤ) (ws : List Worked) → a.values ≡ padded 8 ys → a.count ≡ length ys
-    → (gathered a ws).fit ≡ true → Gathers ws ys (gathered a ws)
+-- some that have values, gathered after others
+fit_after : (a : Arguments) (ys : List ℤ) (ws : List Worked) → a.values ≡ Some (padded 8 ys) → a.count ≡ length ys
+    → (vs : List ℤ) → (gathered a ws).values ≡ Some vs → Gathers ws ys (gathered a ws)
 unfolding gathered with_one working working_all
-fit_after a ys [] v n e =
+fit_after a ys [] v n vs e =
     let s = sym (append-nil ys) in
-    record { zs = []; works = λ k. refl; values = v ∙ ap (padded 8) s; count = n ∙ ap length s }
-fit_after a ys (Value z ∷ ws) v n e =
+    record { zs = []; works = λ k. refl; values = v ∙ ap (λ zs. Some (padded 8 zs)) s; count = n ∙ ap length s }
+fit_after a ys (Some z ∷ ws) v n vs e =
     let g =
-    fit_after (with_one a (Value z)) (ys ++ (z ∷ [])) ws
-    (ap₂ (λ vs i. set vs i z) v n ∙ padded_more 8 ys z) (omega (arith, length-append ys (z ∷ []))) e in
+    fit_after (with_one a (Some z)) (ys ++ (z ∷ [])) ws
+    (ap₂ (λ o i. option_map (λ zs. set zs i z) o) v n ∙ ap Some (padded_more 8 ys z)) (omega (arith, length-append ys (z ∷ []))) vs e in
     let s = append_assoc ys (z ∷ []) g.zs in
-    record { zs = z ∷ g.zs; works = λ k. g.works (λ zs. k (z ∷ zs)); values = g.values ∙ ap (padded 8) s; count = g.count ∙ ap length s }
-fit_after a ys (OutOfRange ∷ ws) v n e = absurd (false≢true (sym (unfit_stays (with_one a OutOfRange) ws refl) ∙ e))
+    record { zs = z ∷ g.zs; works = λ k. g.works (λ zs. k (z ∷ zs)); values = g.values ∙ ap (λ zs. Some (padded 8 zs)) s; count = g.count ∙ ap length s }
+fit_after a ys (None ∷ ws) v n vs e = absurd (no_some (sym (unfit_stays (with_one a None) ws refl) ∙ e))
 
-unfit_after : (a : Arguments) (ws : List Worked) → a.fit ≡ true → (gathered a ws).fit ≡ false
+unfit_after : (a : Arguments) (ws : List Worked) (vs : List ℤ) → a.values ≡ Some vs → (gathered a ws).values ≡ None
     → (k : List ℤ → Next) → working_all ws k ≡ refused out_of_range
 unfolding gathered with_one working working_all
-unfit_after a [] f e k = absurd (false≢true (sym e ∙ f))
-unfit_after a (Value z ∷ ws) f e k = unfit_after (with_one a (Value z)) ws f e (λ zs. k (z ∷ zs))
-unfit_after a (OutOfRange ∷ ws) f e k = refl
+unfit_after a [] vs f e k = absurd (no_some (sym e ∙ f))
+unfit_after a (Some z ∷ ws) vs f e k =
+    unfit_after (with_one a (Some z)) ws (set vs a.count z) (ap (option_map (λ zs. set zs a.count z)) f) e (λ zs. k (z ∷ zs))
+unfit_after a (None ∷ ws) vs f e k = refl
 
 -- all the arguments of a statement, by what the code gathered
 module _ (ws : List Worked) (g : Arguments) (is : g ≡ gathered no_arguments ws) where
-  pub gathered_fit : g.fit ≡ true → Gathers ws [] g
+  pub gathered_fit : (vs : List ℤ) → g.values ≡ Some vs → Gathers ws [] g
   unfolding no_arguments padded
-  gathered_fit e =
-      let f = fit_after no_arguments [] ws refl refl (ap (λ (g : Arguments). g.fit) (sym is) ∙ e) in
+  gathered_fit vs e =
+      let f = fit_after no_arguments [] ws refl refl vs (ap (λ (g : Arguments). g.values) (sym is) ∙ e) in
       record { zs = f.zs; works = f.works; values = ap (λ (g : Arguments). g.values) is ∙ f.values; count = ap (λ (g : Arguments). g.count) is ∙ f.count }
 
-  pub gathered_unfit : g.fit ≡ false → (k : List ℤ → Next) → working_all ws k ≡ refused out_of_range
+  pub gathered_unfit : g.values ≡ None → (k : List ℤ → Next) → working_all ws k ≡ refused out_of_range
   unfolding no_arguments
-  gathered_unfit e = unfit_after no_arguments ws refl (ap (λ (g : Arguments). g.fit) (sym is) ∙ e)
+  gathered_unfit e = unfit_after no_arguments ws _ refl (ap (λ (g : Arguments). g.values) (sym is) ∙ e)

@@ -1,8 +1,8 @@
 -- What `new` and `call` write, one part after the other as the code writes them: each part's law. Assumes nothing.
+use Rattle.std.specs.Prelude.{Option, None, Some, Err}
 use Prim.Native.Nat.{ℕ, ◌+◌, ◌≤◌, ◌<◌}
 use mathlib.Core.Bool.{true, false}
 use mathlib.Core.List.{List, [], ◌∷◌, ◌++◌}
-use mathlib.Core.Option.{Option, none, some}
 use mathlib.Core.Path.{◌≡◌, refl, sym, ap, ap₂, subst, ◌∙◌}
 use native.Mathlib.Omega.{arith}
 use borrow.Author.Tests.{lt-ltb, le-ltb}
@@ -13,13 +13,13 @@ use mir.Syntax.{w32}
 use mir.Val.{SFits, to_z, of_z}
 use mir.ValLaws.{to_z_pos, to_z-of_z}
 use Rattle.whole.specs.Plain.{whenever}
+use Rattle.whole.specs.declared.refusals.Refusal.{Refusal}
+use Rattle.whole.specs.Vocabulary.Refusing.{Answer, number_of}
 use Rattle.whole.specs.Refusals.{object_rows_full, call_rows_full, callee_no_object}
 use Rattle.whole.specs.Whole.{nat}
 use Rattle.layout.specs.Layout.{Cells, Write, written, object, call, objects, calls, object_rows, call_rows, all_cells, most_attributes, most_locals, class, stage, padded, row_from, new_object, new_call}
 use Rattle.layout.specs.Stages.{invoked, running, objects_in_use, rows_in_use, object_of}
 use Rattle.layout.specs.Vocabulary.Found.{as_object}
-use Rattle.layout.specs.declared.ObjectFound.{ObjectFound}
-use Rattle.layout.specs.declared.ObjectFound.TheVariants as Object
 use Rattle.layout.specs.declared.ObjectNumber.{ObjectNumber}
 use Rattle.layout.proofs.Writes.{written_append}
 use Rattle.layout.proofs.Rows.{unwritten, counts_objects}
@@ -33,12 +33,12 @@ use Rattle.forms.specs.Vocabulary.Done.{Done}
 use Rattle.forms.proofs.Written.{not_performed, assigned_then, done_with}
 
 -- what a rule gives, in other words
-pub same_done : (c : Cells) (n k : Next) (r : ℕ) (e : Cells) → n ≡ k → Done c k r e → Done c n r e
+pub same_done : (c : Cells) (n k : Next) (r : Answer) (e : Cells) → n ≡ k → Done c k r e → Done c n r e
 same_done c n k r e h = subst (λ n. Done c n r e) (sym h)
 
 -- a rule that refuses
-pub refused_done : (c : Cells) (n : Next) (k : ℕ) → n ≡ refused k → Done c n k c
-refused_done c n k e = same_done c n (refused k) k c e (not_performed c k)
+pub refused_done : (c : Cells) (n : Next) (k : Refusal) → n ≡ refused (number_of k) → Done c n (Err k) c
+refused_done c n k e = same_done c n (refused (number_of k)) (Err k) c e (not_performed c k)
 
 -- values of the full number are padded
 pub padded_whole : (n : ℕ) (vs : List ℤ) → length vs ≡ n → vs ≡ padded n vs
@@ -54,22 +54,22 @@ module _ (n : ℕ) (few : n < 256) where
   number_after k e = to_z-of_z w32 _ number_fits ∙ ap (◌+ℤ pos 1) (to_z_pos w32 n (omega arith)) ∙ ap (λ n. pos (n + 1)) e
 
 -- the object that was found, by what the code's enum says of it
-object_in : ObjectFound → ℕ
-object_in (Object.At o) = o.0
-object_in Object.Nothing = 0
+object_in : Option ObjectNumber → ℕ
+object_in (Some o) = o.0
+object_in None = 0
 
-pub object_some : (f : Option ℕ) (o : ObjectNumber) → as_object f ≡ Object.At o → f ≡ some o.0
+pub object_some : (f : Option ℕ) (o : ObjectNumber) → as_object f ≡ Some o → f ≡ Some o.0
 unfolding as_object
-object_some none o e = cc
-object_some (some n) o e = ap some (unfold object_in in ap object_in e)
+object_some None o e = cc
+object_some (Some n) o e = ap Some (unfold object_in in ap object_in e)
 
-pub object_none : (f : Option ℕ) → as_object f ≡ Object.Nothing → f ≡ none
+pub object_none : (f : Option ℕ) → as_object f ≡ None → f ≡ None
 unfolding as_object
-object_none none e = refl
-object_none (some n) e = cc
+object_none None e = refl
+object_none (Some n) e = cc
 
 -- some writes, and after them a value stored and the next line
-pub assigned_after : (m : Model) (c d : Cells) (o l : ℕ) (st : Standing) (ws : List Write) (x : Variable) (y z : ℤ) (r : ℕ) (e : Cells)
+pub assigned_after : (m : Model) (c d : Cells) (o l : ℕ) (st : Standing) (ws : List Write) (x : Variable) (y z : ℤ) (r : Answer) (e : Cells)
     → d ≡ written c ws → y ≡ z → Done d (assigned m d o l st x y) r e → Done c (moved (ws ++ stored c o l x z ++ onward m c o l st)) r e
 assigned_after m c d o l st ws x y z r e f h done =
     assigned_then c d e ws f m o l st r x z (done_with d e (assigned m d o l st x) r y z h done)
@@ -122,7 +122,7 @@ module _ (m : Model) (c : Cells) (o l : ℕ) (st : Standing) (k : ℕ) (zs : Lis
   unfolding created must object_left row_left
   no_call_row x h runs full = rw (lt-ltb (objects_in_use c) object_rows h, runs, le-ltb (rows_in_use c) call_rows full)
 
-  pub created_done : (x : Variable) (d : Cells) (y : ℤ) (r : ℕ) (e : Cells) → objects_in_use c < object_rows → whenever (class_runs m k) (row_left c) ≡ true
+  pub created_done : (x : Variable) (d : Cells) (y : ℤ) (r : Answer) (e : Cells) → objects_in_use c < object_rows → whenever (class_runs m k) (row_left c) ≡ true
       → d ≡ written c (made m c o l st k zs) → y ≡ pos (objects_in_use c + 1) → Done d (assigned m d o l st x y) r e → Done c (created m c o l st x k zs) r e
   unfolding created must object_left next_object
   created_done x d y r e h left f number done =
@@ -130,16 +130,16 @@ module _ (m : Model) (c : Cells) (o l : ℕ) (st : Standing) (k : ℕ) (zs : Lis
 
 -- what `call` gives: no callee, no row, or the call issued
 module _ (m : Model) (c : Cells) (o l : ℕ) (st : Standing) (x : Variable) (z : ℤ) (j : ℕ) (zs : List ℤ) where
-  pub no_callee : object_of c z ≡ none → issued m c o l st x z j zs ≡ refused callee_no_object
+  pub no_callee : object_of c z ≡ None → issued m c o l st x z j zs ≡ refused callee_no_object
   unfolding issued
   no_callee h = rw (h, issued)
 
-  module _ (to : ℕ) (is : object_of c z ≡ some to) where
+  module _ (to : ℕ) (is : object_of c z ≡ Some to) where
     pub no_row : call_rows ≤ rows_in_use c → issued m c o l st x z j zs ≡ refused call_rows_full
     unfolding issued must row_left
     no_row full = rw (is, issued, le-ltb (rows_in_use c) call_rows full)
 
-    pub issued_done : (d : Cells) (y : ℤ) (r : ℕ) (e : Cells) → rows_in_use c < call_rows → d ≡ written c (with_call c invoked o to j zs)
+    pub issued_done : (d : Cells) (y : ℤ) (r : Answer) (e : Cells) → rows_in_use c < call_rows → d ≡ written c (with_call c invoked o to j zs)
         → y ≡ pos (rows_in_use c + 1) → Done d (assigned m d o l st x y) r e → Done c (issued m c o l st x z j zs) r e
     unfolding issued must row_left next_row
     issued_done d y r e left f number done =

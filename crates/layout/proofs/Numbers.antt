@@ -1,7 +1,7 @@
 -- What the tests of a number say of the label that it is. Assumes nothing.
+use Rattle.std.specs.Prelude.{Option, None, Some}
 use Prim.Native.Nat.{ℕ, zero, suc, ◌≤◌}
 use mathlib.Core.Bool.{Bool, true, false, ◌&&◌, false≢true}
-use mathlib.Core.Option.{Option, none, some}
 use mathlib.Core.Path.{◌≡◌, refl, sym, ap, ◌∙◌}
 use native.Mathlib.Omega.{arith}
 use borrow.Author.Tests.{leb-true}
@@ -12,12 +12,8 @@ use mir.Syntax.{w32}
 use mir.Val.{Fits, SFits}
 use Rattle.whole.specs.Whole.{between, nat}
 use Rattle.layout.specs.declared.Label as Declared
-use Rattle.layout.specs.declared.LabelFound.{LabelFound}
-use Rattle.layout.specs.declared.LabelFound.TheVariants as Label
-use Rattle.layout.specs.declared.ObjectFound.TheVariants as Object
-use Rattle.layout.specs.declared.RowFound.{RowFound}
-use Rattle.layout.specs.declared.RowFound.TheVariants as Row
-use Rattle.layout.specs.Vocabulary.Found.{as_label, as_object, as_row}
+use Rattle.layout.specs.declared.Label.{Label}
+use Rattle.layout.specs.Vocabulary.Found.{as_label, as_object}
 use Rattle.layout.specs.Layout.{Cells, read, objects, calls}
 use Rattle.whole.specs.Plain.{only_if}
 use Rattle.whole.proofs.Both.{both_right}
@@ -51,11 +47,11 @@ count_cell (negsuc n) (negsuc m) = refl
 
 -- a number that passed the test of a count, or did not
 module _ (k z : ℤ) where
-  up_to_in : between (pos 1) k z ≡ true → up_to (nat k) z ≡ some (nat_abs z)
+  up_to_in : between (pos 1) k z ≡ true → up_to (nat k) z ≡ Some (nat_abs z)
   unfolding up_to only_if
-  up_to_in h = rw (count_cell k z ∙ h, up_to, only_if) (ap some (sym (counted_as k z h)))
+  up_to_in h = rw (count_cell k z ∙ h, up_to, only_if) (ap Some (sym (counted_as k z h)))
 
-  up_to_out : between (pos 1) k z ≡ false → up_to (nat k) z ≡ none
+  up_to_out : between (pos 1) k z ≡ false → up_to (nat k) z ≡ None
   unfolding up_to only_if
   up_to_out h = rw (count_cell k z ∙ h, up_to, only_if)
 
@@ -71,70 +67,55 @@ module _ (k z : ℤ) where
 
 -- as a label, and as an object's number
 module _ (c : Cells) (z : ℤ) where
-  pub label_in_use : between (pos 1) (read c calls) z ≡ true → Label.At (record { 0 = nat_abs z }) ≡ as_label (label_of c z)
+  pub label_in_use : between (pos 1) (read c calls) z ≡ true → Some (record { 0 = nat_abs z }) ≡ as_label (label_of c z)
   unfolding as_label label_of rows_in_use
   label_in_use h = sym (ap as_label (up_to_in (read c calls) z h))
 
-  pub label_not_in_use : between (pos 1) (read c calls) z ≡ false → Label.Nothing ≡ as_label (label_of c z)
+  pub label_not_in_use : between (pos 1) (read c calls) z ≡ false → None ≡ as_label (label_of c z)
   unfolding as_label label_of rows_in_use
   label_not_in_use h = sym (ap as_label (up_to_out (read c calls) z h))
 
-  pub object_in_use : between (pos 1) (read c objects) z ≡ true → Object.At (record { 0 = nat_abs z }) ≡ as_object (object_of c z)
+  pub object_in_use : between (pos 1) (read c objects) z ≡ true → Some (record { 0 = nat_abs z }) ≡ as_object (object_of c z)
   unfolding as_object object_of objects_in_use
   object_in_use h = sym (ap as_object (up_to_in (read c objects) z h))
 
-  pub object_not_in_use : between (pos 1) (read c objects) z ≡ false → Object.Nothing ≡ as_object (object_of c z)
+  pub object_not_in_use : between (pos 1) (read c objects) z ≡ false → None ≡ as_object (object_of c z)
   unfolding as_object object_of objects_in_use
   object_not_in_use h = sym (ap as_object (up_to_out (read c objects) z h))
 
 -- the number of a label that was found
-label_in : ℕ → LabelFound → ℕ
-label_in d (Label.At l) = l.0
-label_in d Label.Nothing = d
+label_in : ℕ → Option Label → ℕ
+label_in d (Some l) = l.0
+label_in d None = d
 
 module _ (c : Cells) (o : ℕ) (z : ℤ) where
   -- no label, no reply
-  pub no_label : Label.Nothing ≡ as_label (label_of c z) → Label.Nothing ≡ as_label (reply_for c o z)
+  pub no_label : None ≡ as_label (label_of c z) → None ≡ as_label (reply_for c o z)
   unfolding as_label reply_for
   no_label e = go (label_of c z) refl e
     where
-      go : (f : Option ℕ) → label_of c z ≡ f → Label.Nothing ≡ as_label f → Label.Nothing ≡ as_label (reply_for c o z)
-      go none e' e = rw (e', reply_for)
-      go (some l) e' e = cc
+      go : (f : Option ℕ) → label_of c z ≡ f → None ≡ as_label f → None ≡ as_label (reply_for c o z)
+      go None e' e = rw (e', reply_for)
+      go (Some l) e' e = cc
 
   -- a label, and whether its reply is in
-  pub a_label : (b : Bool) (l : ℕ) → Label.At (record { 0 = l }) ≡ as_label (label_of c z) → is_reply c o l ≡ b → as_label (only_if b l) ≡ as_label (reply_for c o z)
+  pub a_label : (b : Bool) (l : ℕ) → Some (record { 0 = l }) ≡ as_label (label_of c z) → is_reply c o l ≡ b → as_label (only_if b l) ≡ as_label (reply_for c o z)
   unfolding as_label reply_for
   a_label b l e r = go (label_of c z) refl e
     where
-      go : (f : Option ℕ) → label_of c z ≡ f → Label.At (record { 0 = l }) ≡ as_label f → as_label (only_if b l) ≡ as_label (reply_for c o z)
-      go none e' e = cc
-      go (some n) e' e =
+      go : (f : Option ℕ) → label_of c z ≡ f → Some (record { 0 = l }) ≡ as_label f → as_label (only_if b l) ≡ as_label (reply_for c o z)
+      go None e' e = cc
+      go (Some n) e' e =
           let n-is : l ≡ n = unfold label_in in ap (label_in 0) e in
           rw (e', reply_for, ← n-is, r)
 
 -- what was found, by what the code's enum says of it
-pub label_some : (f : Option ℕ) (l : Declared.Label) → as_label f ≡ Label.At l → f ≡ some l.0
+pub label_some : (f : Option ℕ) (l : Declared.Label) → as_label f ≡ Some l → f ≡ Some l.0
 unfolding as_label
-label_some none l e = cc
-label_some (some n) l e = ap some (unfold label_in in ap (label_in 0) e)
+label_some None l e = cc
+label_some (Some n) l e = ap Some (unfold label_in in ap (label_in 0) e)
 
-pub label_none : (f : Option ℕ) → as_label f ≡ Label.Nothing → f ≡ none
+pub label_none : (f : Option ℕ) → as_label f ≡ None → f ≡ None
 unfolding as_label
-label_none none e = refl
-label_none (some n) e = cc
-
--- the same of a row
-row_in : ℕ → RowFound → ℕ
-row_in d (Row.At r) = r
-row_in d Row.Nothing = d
-
-pub row_some : (f : Option ℕ) (r : ℕ) → as_row f ≡ Row.At r → f ≡ some r
-unfolding as_row
-row_some none r e = cc
-row_some (some n) r e = ap some (unfold row_in in ap (row_in 0) e)
-
-pub row_none : (f : Option ℕ) → as_row f ≡ Row.Nothing → f ≡ none
-unfolding as_row
-row_none none e = refl
-row_none (some n) e = cc
+label_none None e = refl
+label_none (Some n) e = cc

@@ -1,8 +1,8 @@
 -- Writes that spare a call: none is in its row. And what the last write in a row leaves. Assumes nothing.
+use Rattle.std.specs.Prelude.{None, Some}
 use Prim.Native.Nat.{ℕ, ◌+◌, ◌≤◌, ◌<◌}
 use mathlib.Core.Bool.{Bool, true, false}
 use mathlib.Core.List.{List, [], ◌∷◌, ◌++◌}
-use mathlib.Core.Option.{none, some}
 use mathlib.Core.Path.{◌≡◌, refl, sym, ap, fun_ext, ◌∙◌}
 use mathlib.Core.Logic.{◌≢◌}
 use native.Mathlib.Omega.{arith}
@@ -48,7 +48,7 @@ module _ (l : ℕ) where
   unfolding to_call row_of only_if
   spares_call c r f z n = go (is_row call_rows r)
     where
-      go : (b : Bool) → Spares (elim (only_if b r) as (λ _. List Write) [ some r ↦ (call r f, z) ∷ [] | none ↦ [] ]) l
+      go : (b : Bool) → Spares (elim (only_if b r) as (λ _. List Write) [ Some r ↦ (call r f, z) ∷ [] | None ↦ [] ]) l
       go true = (λ g. call_not n, tt)
       go false = tt
 

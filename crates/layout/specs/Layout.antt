@@ -1,7 +1,6 @@
 -- "The configuration", "2,370 cells of i32": the cells by named places. All that is said of a configuration goes through these names,
 -- so that a wider row changes the constants here and nothing else. Assumes nothing.
-use Rattle.std.specs.Prelude.{ℕ, ◌+◌, ◌-◌, ◌*◌, ◌/◌, ◌%◌, Bool, true, false, ◌&&◌, List, [], ◌∷◌, ◌++◌, leb, ltb, length, get_or, set, take, replicate, ℤ, pos}
-use Rattle.std.proofs.Math.Option.{Option, none, some}
+use Rattle.std.specs.Prelude.{ℕ, ◌+◌, ◌-◌, ◌*◌, ◌/◌, ◌%◌, Bool, true, false, ◌&&◌, List, [], ◌∷◌, ◌++◌, leb, ltb, length, get_or, set, take, replicate, ℤ, pos, Option, None, Some}
 use Rattle.whole.specs.Plain.{only_if}
 
 abbrev pub Cells : Type 0
@@ -149,10 +148,10 @@ row_of c label = only_if (is_row call_rows label) label
 
 -- a field of a call by its label, and a value for it; what has no row reads as 0
 unfoldable pub of_call : Cells → ℕ → ℕ → ℤ
-of_call c l f = elim (row_of c l) [ some r ↦ read c (call r f) | none ↦ pos 0 ]
+of_call c l f = elim (row_of c l) [ Some r ↦ read c (call r f) | None ↦ pos 0 ]
 
 unfoldable pub to_call : Cells → ℕ → ℕ → ℤ → List Write
-to_call c l f z = elim (row_of c l) [ some r ↦ (call r f, z) ∷ [] | none ↦ [] ]
+to_call c l f z = elim (row_of c l) [ Some r ↦ (call r f, z) ∷ [] | None ↦ [] ]
 
 -- values for the fields of a row, from one field on
 unfoldable pub row_from : (ℕ → Place) → ℕ → List ℤ → List Write

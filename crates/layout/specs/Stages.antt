@@ -1,7 +1,6 @@
 -- "Stages: 1 invoked, 2 queued, 3 bound (or suspended), 4 running, 5 answered, 6 reply in, 7 taken." What the stages and the callers say of
 -- a number: whether it is an object or a label in use, and whether a reply is in. Assumes nothing.
-use Rattle.std.specs.Prelude.{ℕ, Bool, ◌&&◌, List, ℤ, pos}
-use Rattle.std.proofs.Math.Option.{Option, none, some}
+use Rattle.std.specs.Prelude.{ℕ, Bool, ◌&&◌, List, ℤ, pos, Option, None, Some}
 use Rattle.whole.specs.Plain.{only_if}
 use Rattle.whole.specs.Whole.{between, eq_z, nat}
 use Rattle.layout.specs.Layout.{Cells, Write, read, objects, calls, of_call, to_call, stage, caller}
@@ -71,4 +70,4 @@ is_reply c o l = in_stage c l replied && eq_z (of_call c l caller) (pos o)
 
 -- "a label of stage 6 whose caller is this object"
 unfoldable pub reply_for : Cells → ℕ → ℤ → Option ℕ
-reply_for c o z = elim (label_of c z) [ none ↦ none | some l ↦ only_if (is_reply c o l) l ]
+reply_for c o z = elim (label_of c z) [ None ↦ None | Some l ↦ only_if (is_reply c o l) l ]

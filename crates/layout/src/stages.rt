@@ -4,6 +4,7 @@ ghost use Rattle.layout.specs.Stages as Stages;
 
 use crate::Label;
 
+// Numbers and no enum: `in_stage`, `in_stages` and `to_stage` are public, promise something of every `u8`, and may not take a narrower type.
 pub const INVOKED: u8 = 1;
 
 pub const QUEUED: u8 = 2;
@@ -23,7 +24,7 @@ pub const TAKEN: u8 = 7;
 pub fn in_stage(cells: &[i32], l: Label, stage: u8) -> bool
     ensures { result ≡ Stages.in_stage cells.now l.0 stage }
 {
-    whole::is_number(crate::of_call(cells, l, crate::STAGE), stage as u32)
+    whole::is_number(crate::of_call(cells, l, crate::STAGE), u32::from(stage))
 }
 
 // A call in one of several stages, from a first to a last.
@@ -32,8 +33,8 @@ pub fn in_stages(cells: &[i32], l: Label, first: u8, last: u8) -> bool
     ensures { result ≡ Stages.in_stages cells.now l.0 first last }
 {
     whole::between(
-        first as i32,
-        last as i32,
+        i32::from(first),
+        i32::from(last),
         crate::of_call(cells, l, crate::STAGE),
     )
 }

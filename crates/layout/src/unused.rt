@@ -4,18 +4,17 @@ ghost use Rattle.layout.specs.Layout as Layout;
 ghost use Rattle.layout.specs.Stages as Stages;
 ghost use Rattle.layout.specs.Vocabulary.Found as Found;
 
-// Every cell from one on and before another is 0.
-#[tactic(auto, using(crate::proofs::Zeros::zeros_done, crate::proofs::Zeros::zeros_more, crate::proofs::Zeros::zeros_stop, whole::proofs::Ranges::same_bits), unfolding(crate::specs::Vocabulary::Found::zeros_in))]
-fn zeros(cells: &[i32], from: usize, to: usize) -> bool
-    requires { to ≤ length cells.now }
-    ensures { result ≡ Found.zeros_in cells.now from to }
+use crate::{CALL_BLOCK, OBJECT_BLOCK};
+
+// Every cell is 0. Not `iter().all(..)`: the proof did not close, as nothing tells after that call that each item fits 32 bits.
+#[tactic(auto, using(crate::proofs::Zeros::zeros_done, crate::proofs::Zeros::zeros_more, crate::proofs::Zeros::zeros_stop))]
+fn zeros(cells: &[i32]) -> bool
+    ensures { result ≡ Found.zeros cells.now }
 {
-    let mut i = from;
-    while i < to {
-        if cells[i] != 0 {
+    for &z in cells {
+        if z != 0 {
             return false;
         }
-        i += 1;
     }
     true
 }
@@ -28,17 +27,8 @@ pub fn unused_zero(cells: &[i32]) -> bool
     requires cells_bound_2 { Stages.rows_in_use cells.now ≤ Layout.call_rows }
     ensures { result ≡ (Found.zeros_in cells.now (Layout.first_object + Stages.objects_in_use cells.now * Layout.object_cells) Layout.first_call && Found.zeros_in cells.now (Layout.first_call + Stages.rows_in_use cells.now * Layout.call_cells) Layout.all_cells) }
 {
-    if zeros(
-        cells,
-        crate::FIRST_OBJECT + crate::objects_in_use(cells) * crate::OBJECT_CELLS as usize,
-        crate::FIRST_CALL,
-    ) {
-        zeros(
-            cells,
-            crate::FIRST_CALL + crate::rows_in_use(cells) * crate::CALL_CELLS as usize,
-            cells.len(),
-        )
-    } else {
-        false
-    }
+    let objects_end = OBJECT_BLOCK.first
+        + crate::objects_in_use(cells) * OBJECT_BLOCK.width as usize;
+    let calls_end = CALL_BLOCK.first + crate::rows_in_use(cells) * CALL_BLOCK.width as usize;
+    zeros(&cells[objects_end..CALL_BLOCK.first]) && zeros(&cells[calls_end..])
 }

@@ -1,12 +1,12 @@
 -- What a text that was judged tells of the line that a call stands at: its shape and those of its body, and its statement, read where the table
 -- leads. Assumes nothing.
+use Rattle.std.specs.Prelude.{Some, Result, Ok}
 use Prim.Native.Nat.{ℕ, ◌+◌, ◌≤◌, ◌<◌}
 use mathlib.Core.List.{List, []}
-use mathlib.Core.Option.{some}
 use mathlib.Core.Path.{◌≡◌, refl, sym, ap, ap₂, subst, ◌∙◌}
 use native.Mathlib.Omega.{arith}
 use lib.ListN.{length, get_or, take, drop, length-map, length-take, length-drop}
-use Rattle.whole.specs.declared.Worked.{Worked}
+use Rattle.whole.specs.Whole.{Worked}
 use Rattle.layout.specs.Layout.{Cells}
 use Rattle.terms.specs.declared.Here.{Here}
 use Rattle.terms.specs.declared.Limits.{Limits}
@@ -16,8 +16,8 @@ use Rattle.terms.specs.Trees.{trees, guard_trees}
 use Rattle.terms.specs.Values.{Surroundings, values, guard_values, value_of, guard_of}
 use Rattle.terms.specs.Vocabulary.Answers.{surroundings}
 use Rattle.terms.proofs.Following.{mapped_got}
-use Rattle.code.specs.declared.ReadCode.{ReadCode}
-use Rattle.code.specs.declared.ReadStatement.TheVariants as Read
+use Rattle.code.specs.declared.Arguments.{Arguments}
+use Rattle.code.specs.declared.Statement as Declared
 use Rattle.code.specs.declared.Shape.{Shape}
 use Rattle.code.specs.Blocks.{shape_of, shape_number, until_else, until_fi, until_od, opening, closing, through_all}
 use Rattle.code.specs.Partners.{goes_from, goes_to}
@@ -41,10 +41,11 @@ use Rattle.cells.specs.Standing.{shapes_of}
 use Rattle.rules.specs.Exec.{here, worked_out}
 use Rattle.rules.proofs.Executing.{item_inside}
 use Rattle.lookup.specs.declared.Standing.{Standing}
-use Rattle.lookup.specs.Vocabulary.Found.{Told, StandingIs, Lined, Inside, shapes_at, around}
+use Rattle.lookup.specs.Vocabulary.Found.{StandingIs, Lined, Inside, shapes_at, around}
+use Rattle.lookup.specs.Vocabulary.Programs.{Told}
 
 -- what a line goes to is a line, or the place after the last
-goes_most : (ls : List Shape) → through_all ls [] ≡ some [] → (i : ℕ) → i < length ls → goes_to ls i ≤ length ls
+goes_most : (ls : List Shape) → through_all ls [] ≡ Some [] → (i : ℕ) → i < length ls → goes_to ls i ≤ length ls
 unfolding goes_to goes_from opening closing
 goes_most ls closes i inside = go (get_or ls i Shape.Plain) refl
   where
@@ -187,15 +188,11 @@ module _ (s : Text) (t : Table) (x : List ℕ) (k : Known s t x) where
       unfolding around surroundings here
       line_read = ap as_code (read_worked (surroundings c h) _ (classes_in t) _ _ is.statement line_tree)
 
-      -- what the code finds there
-      module _ (r : ReadCode) (e : r ≡ statement_read c (around h d.body) (classes_in t) (value_in s (row_at t (code_row (d.body.first + d.line))))) where
-        pub line_said : r.read ≡ Read.Got (as_statement (worked_out (here c h.object.0 h.label.0) is.statement))
-        unfolding as_code
-        line_said = ap (λ (x : ReadCode). x.read) (e ∙ line_read)
-
-        pub line_beside : r.arguments ≡ arguments_of (worked_out (here c h.object.0 h.label.0) is.statement)
-        unfolding as_code
-        line_beside = ap (λ (x : ReadCode). x.arguments) (e ∙ line_read)
+      -- what the code finds there: the statement and its arguments
+      pub line_said : (r : Result (Declared.Statement × Arguments) ℕ) → r ≡ statement_read c (around h d.body) (classes_in t) (value_in s (row_at t (code_row (d.body.first + d.line))))
+          → r ≡ Ok (as_statement (worked_out (here c h.object.0 h.label.0) is.statement), arguments_of (worked_out (here c h.object.0 h.label.0) is.statement))
+      unfolding as_code
+      line_said r e = e ∙ line_read
 
     -- the numbers of it, worked out
     module _ (e : Surroundings) where

@@ -1,3 +1,4 @@
 -- Vocabulary of the contracts: what the code answers, keeps and packs, beside the definitions. Nobody has to believe it: no definition of
 -- document 01 uses it.
 pub mod Found
+pub mod Programs

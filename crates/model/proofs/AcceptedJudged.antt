@@ -1,13 +1,13 @@
 -- What a text is judged to be: it gives a model as the document says, or a refusal with a small number and line. Assumes nothing.
+use Rattle.std.specs.Prelude.{Some, slice_get}
 use Prim.Native.Nat.{ℕ, suc, ◌≤◌}
 use mathlib.Core.Bool.{Bool, true, false}
 use mathlib.Core.List.{List, [], ◌∷◌}
-use mathlib.Core.Option.{some}
 use mathlib.Core.Path.{◌≡◌, refl, subst, ◌∙◌}
 use native.Mathlib.Omega.{arith}
 use borrow.Author.Tests.{ltb-false, eqb-true}
 use lib.Dec.{ltb, eqb}
-use lib.ListN.{length, get_elem?}
+use lib.ListN.{length}
 use Rattle.whole.specs.Lists.{Every}
 use Rattle.whole.specs.Refusals.{text_too_long, broken_line, wrong_key, wrong_code}
 use Rattle.terms.specs.Bytes.{Text}
@@ -23,7 +23,7 @@ use Rattle.model.proofs.ModelTold.{Before, Noted, ModelRead, brings_model}
 
 -- a class and a count of arguments that fit: "exactly the given count of class K"
 abbrev Fitting : Model → ℕ × ℕ → Type 0
-Fitting m n = (k : Class) → get_elem? m n.0 ≡ some k → n.1 ≡ k.given
+Fitting m n = (k : Class) → slice_get m n.0 ≡ Some k → n.1 ≡ k.given
 
 -- what a text is judged to be, by the model and the `new`s that were read of it: the model is given, and each `new` fits; or there is a refusal,
 -- at the line of a `new` or at the line that was reached

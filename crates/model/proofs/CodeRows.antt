@@ -1,7 +1,7 @@
 -- The row of a code line, which tells its statement, its `new` and its shape. Assumes nothing.
+use Rattle.std.specs.Prelude.{Some}
 use Prim.Native.Nat.{ℕ, ◌+◌, ◌-◌, ◌≤◌, ◌<◌}
 use mathlib.Core.List.{List, ◌++◌}
-use mathlib.Core.Option.{some}
 use mathlib.Core.Path.{◌≡◌, refl, sym, ap, subst, ◌∙◌}
 use native.Mathlib.Omega.{arith}
 use lib.Dec.{eqb}
@@ -66,7 +66,7 @@ module _ (s : Text) (t : Table) (x : List ℕ) (sized : Sized t x) (m : MethodHe
   abbrev pub carried : SoFar
   carried = record { total = total; creations = creations_in t line ++ creations_of at is.code; blocks = is.after }
 
-  taken : Taking (eqb (i + 1) m.count) is.code at (so_far t line total bs) (some is.after) (standing at (eqb (i + 1) m.count) (so_far t line total bs) is.code (through (shape_of is.code) bs))
+  taken : Taking (eqb (i + 1) m.count) is.code at (so_far t line total bs) (Some is.after) (standing at (eqb (i + 1) m.count) (so_far t line total bs) is.code (through (shape_of is.code) bs))
   taken = rw is.stands at (taking (eqb (i + 1) m.count) is.code at (so_far t line total bs) (through (shape_of is.code) bs))
 
   pub line_taken : value_taken (limits_of m) m.classes (eqb (i + 1) m.count) (so_far t line total bs) at (take (end - place) (drop place s)) ≡ right (is.code, carried)

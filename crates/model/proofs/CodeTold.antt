@@ -1,8 +1,8 @@
 -- What code lines that were read tell: of each line by itself, and of how all of them open and close blocks. Assumes nothing.
+use Rattle.std.specs.Prelude.{Option, None, Some}
 use Prim.Native.Nat.{ℕ, zero, suc, ◌+◌, ◌-◌, ◌≤◌, ◌<◌}
 use mathlib.Core.Bool.{Bool, true, false}
 use mathlib.Core.List.{List, [], ◌∷◌, ◌++◌, map}
-use mathlib.Core.Option.{Option, none, some}
 use mathlib.Core.Path.{◌≡◌, refl, sym, ap, subst, ◌∙◌}
 use native.Mathlib.Omega.{arith}
 use borrow.Author.Tests.{leb-true, eqb-true, eq-eqb}
@@ -33,7 +33,7 @@ use Rattle.model.specs.ModelText.{SoFar, creations_of, may_stand, standing, code
 -- a code line read, where so many stand in its method: what it tells by itself, and how it changes what is carried
 pub record LineRead (last : ℕ) (lim : Limits) (classes count i : ℕ) (so : SoFar) (c : Code) (t : SoFar) : Type 0 where
   pub within : CodeWithin lim classes c
-  pub through : through (shape_of c) so.blocks ≡ some t.blocks
+  pub through : through (shape_of c) so.blocks ≡ Some t.blocks
   pub stands : may_stand (eqb (i + 1) count) c t.blocks ≡ true
   pub total : t.total ≡ so.total
   pub at : ℕ
@@ -45,8 +45,8 @@ module _ (last : ℕ) (lim : Limits) (classes count i : ℕ) (so : SoFar) where
   taken_standing : (at : ℕ) (c : Code) → at ≤ last → CodeWithin lim classes c → (o : Option (List Block)) → through (shape_of c) so.blocks ≡ o
       → TakenAs last (Along (LineRead last lim classes count i so)) (standing at (eqb (i + 1) count) so c o)
   unfolding standing TakenAs
-  taken_standing at c n w none e = (omega arith, omega arith)
-  taken_standing at c n w (some bs) e = go (may_stand (eqb (i + 1) count) c bs) refl
+  taken_standing at c n w None e = (omega arith, omega arith)
+  taken_standing at c n w (Some bs) e = go (may_stand (eqb (i + 1) count) c bs) refl
     where
       go : (b : Bool) → may_stand (eqb (i + 1) count) c bs ≡ b → TakenAs last (Along (LineRead last lim classes count i so)) (elim b [
         | false ↦ wrong wrong_blocks
@@ -92,18 +92,18 @@ module _ (last : ℕ) (lim : Limits) (classes count : ℕ) where
   Lines = InTurn (LineRead last lim classes count)
 
   -- lines go through the blocks that are open
-  lines_through : (i : ℕ) (so : SoFar) (cs : List Code) (t : SoFar) → Lines i so cs t → through_all (map shape_of cs) so.blocks ≡ some t.blocks
-  lines_through i so [] t r = all_nil so.blocks ∙ ap (λ u. some u.blocks) r
+  lines_through : (i : ℕ) (so : SoFar) (cs : List Code) (t : SoFar) → Lines i so cs t → through_all (map shape_of cs) so.blocks ≡ Some t.blocks
+  lines_through i so [] t r = all_nil so.blocks ∙ ap (λ u. Some u.blocks) r
   lines_through i so (c ∷ cs) t r =
       all_some (shape_of c) (map shape_of cs) so.blocks r.0.blocks r.1.through ∙ lines_through (i + 1) r.0 cs t r.2
 
   -- before all of them
-  none_passed : (so : SoFar) (bs : List Block) → length so.blocks ≤ deepest → through_all [] so.blocks ≡ some bs → length bs ≤ deepest
+  none_passed : (so : SoFar) (bs : List Block) → length so.blocks ≤ deepest → through_all [] so.blocks ≡ Some bs → length bs ≤ deepest
   none_passed so bs h e = let f = all_nil so.blocks in let g : so.blocks ≡ bs = cc in subst (λ x. length x ≤ deepest) g h
 
   -- after each of them few blocks are open
   lines_depth : (i : ℕ) (so : SoFar) (cs : List Code) (t : SoFar) → Lines i so cs t → length so.blocks ≤ deepest
-      → (n : ℕ) (bs : List Block) → through_all (take n (map shape_of cs)) so.blocks ≡ some bs → length bs ≤ deepest
+      → (n : ℕ) (bs : List Block) → through_all (take n (map shape_of cs)) so.blocks ≡ Some bs → length bs ≤ deepest
   lines_depth i so cs t r h zero bs e = none_passed so bs h e
   lines_depth i so [] t r h (suc n) bs e = none_passed so bs h e
   lines_depth i so (c ∷ cs) t r h (suc n) bs e =
@@ -128,7 +128,7 @@ module _ (last : ℕ) (lim : Limits) (classes count : ℕ) where
   lines_accepted so cs t r none_open e h =
       let end = lines_end 0 so cs t r (omega arith) (omega arith) in
       record {
-        close = ap (through_all (map shape_of cs)) (sym none_open) ∙ lines_through 0 so cs t r ∙ ap some end.0;
+        close = ap (through_all (map shape_of cs)) (sym none_open) ∙ lines_through 0 so cs t r ∙ ap Some end.0;
         depth = λ i bs f. lines_depth 0 so cs t r (omega (arith, ap length none_open)) i bs (ap (through_all (take i (map shape_of cs))) none_open ∙ f);
         ends = ap (λ n. get_or (map shape_of cs) (n - 1) Shape.Plain) (length-map cs shape_of) ∙ end.1;
       }

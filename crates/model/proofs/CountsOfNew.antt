@@ -1,14 +1,14 @@
 -- The `new`s of a text, by the rows of the table: what a row tells, what a class is to be given, and the first count that differs. Assumes nothing.
+use Rattle.std.specs.Prelude.{None, Some, Option, slice_get}
 use Prim.Native.Nat.{ℕ, zero, suc, ◌+◌, ◌-◌, ◌/◌, ◌%◌, ◌≤◌, ◌<◌, ◌*◌}
 use mathlib.Core.Bool.{true, false}
 use mathlib.Core.List.{List, [], ◌∷◌, ◌++◌, append_assoc, append-nil}
-use mathlib.Core.Option.{none, some, Option}
 use mathlib.Core.Path.{◌≡◌, refl, sym, ap, ◌∙◌}
 use native.Mathlib.Nat.{zero-add, add-zero}
 use native.Mathlib.Numerals.{add-one}
 use native.Mathlib.Omega.{arith}
 use lib.Dec.{eqb}
-use lib.ListN.{length, get_elem?}
+use lib.ListN.{length}
 use Rattle.whole.specs.Refusals.{accepted, wrong_code}
 use Rattle.text.specs.declared.Verdict.{Verdict}
 use Rattle.code.specs.Statements.{new_of, Code}
@@ -21,7 +21,7 @@ use Rattle.model.specs.declared.Row.{Row}
 use Rattle.model.proofs.TableRows.{item_at, item_past, each_at}
 
 module _ (m : Model) (k : ℕ) where
-  pub given_of : (c : Class) → get_elem? m k ≡ some c → given_to m k ≡ c.given
+  pub given_of : (c : Class) → slice_get m k ≡ Some c → given_to m k ≡ c.given
   unfolding given_to
   given_of c e = rw (given_to, e)
 
@@ -104,14 +104,14 @@ number_told at k n h =
     ap (creation_told at) e ∙ rw (f, g) refl
 
 -- so the number of a line tells its creation
-pub creation_told_lem : (at : ℕ) (c : Code) → ((n : ℕ × ℕ) → new_of c ≡ some n → n.0 < 16) → creation_told at (new_number (new_of c)) ≡ creations_of at c
+pub creation_told_lem : (at : ℕ) (c : Code) → ((n : ℕ × ℕ) → new_of c ≡ Some n → n.0 < 16) → creation_told at (new_number (new_of c)) ≡ creations_of at c
 unfolding creations_of
 creation_told_lem at c = go (new_of c)
   where
-    go : (o : Option (ℕ × ℕ)) → ((n : ℕ × ℕ) → o ≡ some n → n.0 < 16)
-        → creation_told at (new_number o) ≡ elim o [ none ↦ [] | some n ↦ record { at = at; class = n.0; count = n.1 } ∷ [] ]
-    go none h = unfold creation_told new_number in refl
-    go (some n) h = unfold new_number in number_told at n.0 n.1 (h n refl)
+    go : (o : Option (ℕ × ℕ)) → ((n : ℕ × ℕ) → o ≡ Some n → n.0 < 16)
+        → creation_told at (new_number o) ≡ elim o [ None ↦ [] | Some n ↦ record { at = at; class = n.0; count = n.1 } ∷ [] ]
+    go None h = unfold creation_told new_number in refl
+    go (Some n) h = unfold new_number in number_told at n.0 n.1 (h n refl)
 
 -- one row more
 from_more : (t : Table) (i n : ℕ) → creations_from t i (suc n) ≡ creations_from t i n ++ (let r = row_at t (code_row (i + n)) in creation_told r.2 r.3)

@@ -3,7 +3,6 @@ mod Cases
 mod TextBounds
 pub mod AcceptedAt
 pub mod AcceptedJudged
-pub mod Chains
 pub mod CodeRows
 pub mod CodeTold
 pub mod CodeValues
@@ -15,6 +14,7 @@ pub mod Loops
 pub mod ModelTold
 pub mod OneVerdict
 pub mod Open
+pub mod Passing
 pub mod Puts
 pub mod Session
 pub mod TableRows

@@ -1,13 +1,13 @@
 -- What parts above look up in the table and the shapes of a text, without opening them: the number of classes, the counts of a class and of a
 -- method, the bytes and the shape of a code line, and the shapes of a whole method. Assumes nothing.
+use Rattle.std.specs.Prelude.{Some, slice_get}
 use Prim.Native.Nat.{ℕ, suc, ◌+◌, ◌≤◌}
 use mathlib.Core.List.{List, [], ◌∷◌, map}
-use mathlib.Core.Option.{some}
 use mathlib.Core.Path.{◌≡◌, refl, ap, ap₂, ◌∙◌}
 use native.Mathlib.Nat.{zero-add}
 use native.Mathlib.Numerals.{add-one}
 use native.Mathlib.Omega.{arith}
-use lib.ListN.{length, get_or, get_elem?, take, drop}
+use lib.ListN.{length, get_or, take, drop}
 use lib.Seq.{drop-cons}
 use Rattle.whole.specs.Lists.{EachFrom}
 use Rattle.terms.specs.Bytes.{Text}
@@ -46,33 +46,33 @@ pub record MethodRow (t : Table) (k j : ℕ) (o : Method) : Type 0 where
   pub few : (row_at t (method_row k j)).3 + length o.code ≤ all_lines
 
 -- what a table tells of each code line of a model, at a class
-module _ (t : Table) (Told : Limits → ℕ → Code → Type 0) (m : Model) (b : EachFrom (ClassTold t all_lines Told) 0 m) (k : ℕ) (c : Class) (e : get_elem? m k ≡ some c) where
+module _ (t : Table) (Told : Limits → ℕ → Code → Type 0) (m : Model) (b : EachFrom (ClassTold t all_lines Told) 0 m) (k : ℕ) (c : Class) (e : slice_get m k ≡ Some c) where
   class_told : ClassTold t all_lines Told k c
   class_told = each_at _ 0 m k c b e (zero-add k)
 
   -- at a method of the class, and at a code line of it
-  module _ (j : ℕ) (o : Method) (f : get_elem? c.methods j ≡ some o) where
+  module _ (j : ℕ) (o : Method) (f : slice_get c.methods j ≡ Some o) where
     method_told : MethodTold t all_lines Told c.attrs k j o
     unfolding ClassTold
     method_told = each_at _ 0 c.methods j o class_told.5 f (zero-add j)
 
-    line_told : (i : ℕ) (st : Code) → get_elem? o.code i ≡ some st → Told (record { attrs = c.attrs; locals = o.locals }) ((row_at t (method_row k j)).3 + i) st
+    line_told : (i : ℕ) (st : Code) → slice_get o.code i ≡ Some st → Told (record { attrs = c.attrs; locals = o.locals }) ((row_at t (method_row k j)).3 + i) st
     unfolding MethodTold
     line_told i st g = each_at _ (row_at t (method_row k j)).3 o.code i st method_told.4 g refl
 
 -- the table of a text that gives a model
-module _ (s : Text) (t : Table) (m : Model) (b : Belongs s t m) (k : ℕ) (c : Class) (e : get_elem? m k ≡ some c) where
+module _ (s : Text) (t : Table) (m : Model) (b : Belongs s t m) (k : ℕ) (c : Class) (e : slice_get m k ≡ Some c) where
   pub class_at : ClassRow t k c
   unfolding Belongs ClassTold
   class_at = let r = class_told t _ m b.1 k c e in record { attrs = r.0; given = r.1; run = r.2; methods = r.3; few = r.4 }
 
-  module _ (j : ℕ) (o : Method) (f : get_elem? c.methods j ≡ some o) where
+  module _ (j : ℕ) (o : Method) (f : slice_get c.methods j ≡ Some o) where
     pub method_at : MethodRow t k j o
     unfolding Belongs MethodTold
     method_at = let r = method_told t _ m b.1 k c e j o f in record { params = r.0; locals = r.1; lines = r.2; few = r.3 }
 
     -- the bytes of a code line lie within the text and, read, they are the statement of the model
-    pub line_at : (i : ℕ) (st : Code) → get_elem? o.code i ≡ some st → (let r = row_at t (code_row ((row_at t (method_row k j)).3 + i)) in
+    pub line_at : (i : ℕ) (st : Code) → slice_get o.code i ≡ Some st → (let r = row_at t (code_row ((row_at t (method_row k j)).3 + i)) in
         (r.0 + r.1 ≤ length s) × (statement trees guard_trees (record { attrs = c.attrs; locals = o.locals }) (length m) (value_in s r) ≡ got r.1 st))
     unfolding Belongs CodeTold
     line_at = line_told t _ m b.1 k c e j o f
@@ -87,10 +87,10 @@ part_numbers x lim n (c ∷ cs) h told =
     ∙ ap₂ ◌∷◌ told.0 (rw (add-one n) at (part_numbers x lim (n + 1) cs (omega arith) told.1))
 
 -- the shapes of a text that gives a model
-module _ (t : Table) (x : List ℕ) (m : Model) (b : Shaped t x m) (k : ℕ) (c : Class) (e : get_elem? m k ≡ some c)
-    (j : ℕ) (o : Method) (f : get_elem? c.methods j ≡ some o) where
+module _ (t : Table) (x : List ℕ) (m : Model) (b : Shaped t x m) (k : ℕ) (c : Class) (e : slice_get m k ≡ Some c)
+    (j : ℕ) (o : Method) (f : slice_get c.methods j ≡ Some o) where
   -- of one line
-  pub shape_at_lem : (i : ℕ) (st : Code) → get_elem? o.code i ≡ some st → get_or x ((row_at t (method_row k j)).3 + i) 0 ≡ shape_number (shape_of st)
+  pub shape_at_lem : (i : ℕ) (st : Code) → slice_get o.code i ≡ Some st → get_or x ((row_at t (method_row k j)).3 + i) 0 ≡ shape_number (shape_of st)
   unfolding Shaped ShapeTold
   shape_at_lem = line_told t _ m b.1 k c e j o f
 

@@ -1,4 +1,5 @@
 -- So many of a thing, read one after another while the table is filled. Assumes nothing.
+use Rattle.std.specs.Prelude.{Result, Ok}
 use Prim.Native.Nat.{ℕ, ◌+◌, ◌≤◌, ◌<◌}
 use mathlib.Core.Bool.{true}
 use mathlib.Core.List.{List, [], ◌∷◌, ◌++◌}
@@ -10,7 +11,7 @@ use lib.ListN.{length}
 use Rattle.whole.specs.Lists.{EachFrom}
 use Rattle.terms.specs.Bytes.{Text}
 use Rattle.text.specs.declared.At.{At}
-use Rattle.text.specs.declared.Read.{Read}
+use Rattle.text.specs.declared.Failed.{Failed}
 use Rattle.text.specs.InOrder.{Reader, each}
 use Rattle.text.specs.Vocabulary.Readings.{Placed, read_at, Tells}
 use Rattle.text.proofs.Onward.{told_got}
@@ -74,8 +75,8 @@ module _ (s : Text) (t : Table) (x : List ℕ) (m : MethodHead) (from : At) wher
 
   module _ (u : Table) (y : List ℕ) (here : At) (blocks i : ℕ) (p : LinesPassed u y here blocks i) where
     -- one more, by what the code gives of it
-    pub lines_onward : i < m.count → (v : Table) (z : List ℕ) (r : Read) → Tells s (LineLeft s u y v z m i total) r (read_at (one i (so_far u (m.first + i) total p.left)) s here)
-        → (n : ℕ) (q : At) → r ≡ Read.Got n q → LinesPassed v z q n (i + 1)
+    pub lines_onward : i < m.count → (v : Table) (z : List ℕ) (r : Result (ℕ × At) Failed) → Tells s (LineLeft s u y v z m i total) r (read_at (one i (so_far u (m.first + i) total p.left)) s here)
+        → (n : ℕ) (q : At) → r ≡ Ok (n, q) → LinesPassed v z q n (i + 1)
     lines_onward more v z r told n q e =
         let g = told_got s _ r _ told n q e in
         let c = g.0.0 in
@@ -95,7 +96,7 @@ module _ (s : Text) (t : Table) (x : List ℕ) (m : MethodHead) (from : At) wher
         }
 
     -- all of them
-    pub lines_all : m.count ≤ i → total ≤ 512 → Tells s (CodeLeft s t x u y m) (Read.Got total here) (read_at (each m.count 0 (so_far t m.first total []) one) s from)
+    pub lines_all : m.count ≤ i → total ≤ 512 → Tells s (CodeLeft s t x u y m) (Ok (total, here)) (read_at (each m.count 0 (so_far t m.first total []) one) s from)
     lines_all h room = passed_all p.passed h _ total (λ all.
         let c = p.passed.held in
         record {

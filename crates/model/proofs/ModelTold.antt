@@ -1,8 +1,8 @@
 -- What a model that was read tells: method by method, class by class. Assumes nothing.
+use Rattle.std.specs.Prelude.{Option, None, Some}
 use Prim.Native.Nat.{ℕ, ◌+◌, ◌-◌, ◌≤◌, ◌<◌, min}
 use mathlib.Core.Bool.{Bool, true, false, ◌&&◌}
 use mathlib.Core.List.{List, [], ◌∷◌, ◌++◌}
-use mathlib.Core.Option.{Option, none, some}
 use mathlib.Core.Path.{◌≡◌, refl, ◌∙◌}
 use native.Mathlib.Omega.{arith}
 use borrow.Author.Tests.{eq-eqb}
@@ -51,15 +51,15 @@ before_line : (last at : ℕ) (c : Code) → at ≤ last → Before last (creati
 unfolding creations_of Every
 before_line last at c h = go (new_of c)
   where
-    go : (o : Option (ℕ × ℕ)) → Before last (elim o [ none ↦ [] | some n ↦ record { at = at; class = n.0; count = n.1 } ∷ [] ])
-    go none = tt
-    go (some n) = (h, tt)
+    go : (o : Option (ℕ × ℕ)) → Before last (elim o [ None ↦ [] | Some n ↦ record { at = at; class = n.0; count = n.1 } ∷ [] ])
+    go None = tt
+    go (Some n) = (h, tt)
 
 -- of each `new`, its class and the count of its arguments
 module _ (F : ℕ × ℕ → Type 0) where
   -- of a line, if it is one
   abbrev pub NewHas : Code → Type 0
-  NewHas c = (n : ℕ × ℕ) → new_of c ≡ some n → F n
+  NewHas c = (n : ℕ × ℕ) → new_of c ≡ Some n → F n
 
   -- of those that were noted
   abbrev pub Noted : List Creation → Type 0

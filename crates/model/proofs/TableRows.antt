@@ -1,10 +1,10 @@
 -- A row that is put stands in its own place alone, and what holds of each item of a list. Assumes nothing.
+use Rattle.std.specs.Prelude.{Some, None, slice_get}
 use Prim.Native.Nat.{ℕ, zero, suc, ◌+◌, ◌*◌, ◌≤◌, ◌<◌}
 use mathlib.Core.List.{List, [], ◌∷◌, ◌++◌}
-use mathlib.Core.Option.{some, none}
-use mathlib.Core.Path.{◌≡◌, refl, subst, ◌∙◌}
+use mathlib.Core.Path.{◌≡◌, refl, sym, ap, subst, ◌∙◌}
 use native.Mathlib.Omega.{arith}
-use lib.ListN.{length, get_or, set, get_elem?, length-set, length-append}
+use lib.ListN.{length, get_or, set, length-set, length-append}
 use lib.Seq.{get_or-set_same, get_or-set_other}
 use Rattle.whole.specs.Lists.{EachFrom}
 use Rattle.model.specs.Vocabulary.Table.{Table, width, rows, table_size, row_at, put}
@@ -60,6 +60,11 @@ module _ (t : Table) (r : ℕ) (x : Row) where
       (number_other (q * width + 2) (λ i l e. n (omega arith)))
       (number_other (q * width + 3) (λ i l e. n (omega arith)))
 
+-- a row that is put leaves a table as long as it was
+pub put_size : (u : Table) (r : ℕ) (x : Row) (w : Table) → length w ≡ table_size → w ≡ put u r x → length u ≡ table_size
+unfolding put
+put_size u r x w l e = simp length-set at (sym (ap length e) ∙ l)
+
 pub append_length : {A : Type 0} (xs : List A) (x : A) → length (xs ++ (x ∷ [])) ≡ length xs + 1
 append_length xs x = length-append xs (x ∷ [])
 
@@ -84,19 +89,19 @@ each_more P Q n (y ∷ xs) x k h e q = (
 )
 
 -- within a list there is an item
-pub item_at : {A : Type 0} (xs : List A) (i : ℕ) → i < length xs → (x : A) × (get_elem? xs i ≡ some x)
+pub item_at : {A : Type 0} (xs : List A) (i : ℕ) → i < length xs → (x : A) × (slice_get xs i ≡ Some x)
 item_at [] i h = absurd (omega arith)
 item_at (x ∷ xs) zero h = (x, refl)
 item_at (x ∷ xs) (suc i) h = item_at xs i (omega arith)
 
 -- past a list there is no item
-pub item_past : {A : Type 0} (xs : List A) (i : ℕ) → length xs ≤ i → get_elem? xs i ≡ none
+pub item_past : {A : Type 0} (xs : List A) (i : ℕ) → length xs ≤ i → slice_get xs i ≡ None
 item_past [] i h = refl
 item_past (x ∷ xs) zero h = absurd (omega arith)
 item_past (x ∷ xs) (suc i) h = item_past xs i (omega arith)
 
 -- what holds of an item, by its place and its index
-pub each_at : {A : Type 0} (P : ℕ → A → Type 0) (n : ℕ) (xs : List A) (i : ℕ) (x : A) → EachFrom P n xs → get_elem? xs i ≡ some x → {k : ℕ} → n + i ≡ k → P k x
+pub each_at : {A : Type 0} (P : ℕ → A → Type 0) (n : ℕ) (xs : List A) (i : ℕ) (x : A) → EachFrom P n xs → slice_get xs i ≡ Some x → {k : ℕ} → n + i ≡ k → P k x
 unfolding EachFrom
 each_at P n [] i x h e f = absurd (let z : ◌≡◌ {A = ℕ} 0 1 = cc in omega arith)
 each_at P n (y ∷ xs) zero x h e {k} f = let g : y ≡ x = cc in let z : n ≡ k = omega arith in rw (← z, ← g) h.0

@@ -1,4 +1,5 @@
 -- The verdict on a text by how it ends, and the table that belongs to it where it is accepted. Assumes nothing.
+use Rattle.std.specs.Prelude.{Result, Ok, Err}
 use Prim.Native.Nat.{ℕ, suc, ◌+◌, ◌*◌, ◌≤◌, ◌<◌}
 use mathlib.Core.Bool.{Bool, true, false}
 use mathlib.Core.List.{List, [], ◌∷◌}
@@ -8,7 +9,8 @@ use borrow.Author.Tests.{lt-ltb, le-ltb}
 use lib.ListN.{length, drop}
 use lib.Seq.{drop-cons}
 use Rattle.whole.specs.Lists.{EachFrom}
-use Rattle.whole.specs.Refusals.{text_too_long, broken_line, wrong_key}
+use Rattle.std.specs.Result.{MatchResult}
+use Rattle.whole.specs.Refusals.{accepted, text_too_long, broken_line, wrong_key}
 use Rattle.terms.specs.Bytes.{Text, byte_at}
 use Rattle.terms.specs.declared.Limits.{Limits}
 use Rattle.text.specs.declared.At.{At}
@@ -24,9 +26,10 @@ use Rattle.model.specs.Model.{Class, Model}
 use Rattle.model.specs.ModelText.{SoFar, read_model}
 use Rattle.model.specs.Vocabulary.Belonging.{LineTold, ClassTold, Belongs, Shaped}
 use Rattle.model.specs.Vocabulary.Creations.{GivenTold}
+use Rattle.model.specs.Vocabulary.Judging.{accepted_or}
 use Rattle.model.specs.Vocabulary.Table.{Table, row_at, class_row, classes_in}
 use Rattle.model.proofs.AcceptedJudged.{Ends, text_ends}
-use Rattle.model.proofs.CountsOfNew.{verdict_refusal}
+use Rattle.model.proofs.CountsOfNew.{verdict_model, verdict_refusal}
 use Rattle.model.proofs.Framing.{same_self, class_kept}
 use Rattle.model.proofs.TableRows.{each_keep}
 
@@ -77,15 +80,41 @@ end_failed v = refl
 no_model : (v : Verdict) (m : Model) → refusal v ≡ model m → ⊥
 no_model v m e = let z : ◌≡◌ {A = ℕ} 0 1 = cc in omega arith
 
+-- an answer by what it is of: a refusal, or a model
+pub refused_as : (v : Verdict) → Err v ≡ accepted_or (refusal v)
+unfolding accepted_or
+refused_as v = refl
+
+pub accepted_as : (m : Model) → Ok tt ≡ accepted_or (model m)
+unfolding accepted_or
+accepted_as m = refl
+
 -- the verdict is that of the text as it is judged
 pub judge_verdict : (s : Text) → judge s ≡ verdict_of (judged s)
 unfolding judge
 judge_verdict s = refl
 
+-- and so is the one that an answer tells
+module _ (s : Text) where
+  pub verdict_accepted : Ok tt ≡ accepted_or (judged s) → record { number = accepted; line = 0 } ≡ judge s
+  verdict_accepted e = go (judged s) refl
+    where
+      go : (j : Judged) → judged s ≡ j → record { number = accepted; line = 0 } ≡ judge s
+      go (refusal v) f = absurd (subst (λ q. MatchResult q (λ _. Unit {0}) (λ _. ⊥)) (e ∙ ap accepted_or f ∙ sym (refused_as v)) tt)
+      go (model m) f = sym (judge_verdict s ∙ ap verdict_of f ∙ verdict_model m)
+
+  pub verdict_refused : (v : Verdict) → Err v ≡ accepted_or (judged s) → v ≡ judge s
+  verdict_refused v e = go (judged s) refl
+    where
+      go : (j : Judged) → judged s ≡ j → v ≡ judge s
+      go (refusal w) f = sym (subst (λ q. MatchResult q (λ _. ⊥) (λ y. y ≡ v)) (e ∙ ap accepted_or f ∙ sym (refused_as w)) refl) ∙ sym (judge_verdict s ∙ ap verdict_of f ∙ verdict_refusal w)
+      go (model m) f = absurd (subst (λ q. MatchResult q (λ _. ⊥) (λ _. Unit {0})) (e ∙ ap accepted_or f ∙ sym (accepted_as m)) tt)
+
 -- what `read` says of a text that is refused
 pub told_refusal : (s : Text) (t : Table) (x : List ℕ) (v : Verdict) → judged s ≡ refusal v
-    → (v ≡ judge s) × ((m : Model) → judged s ≡ model m → Belongs s t m × Shaped t x m)
-told_refusal s t x v e = (sym (judge_verdict s ∙ ap verdict_of e ∙ verdict_refusal v), λ m f. absurd (no_model v m (sym e ∙ f)))
+    → (Err v ≡ accepted_or (judged s)) × ((m : Model) → judged s ≡ model m → Belongs s t m × Shaped t x m)
+unfolding accepted_or
+told_refusal s t x v e = (sym (ap accepted_or e), λ m f. absurd (no_model v m (sym e ∙ f)))
 
 -- a text whose end gives a model gives the one that was read
 end_model : (r : Model × SoFar) (at : ℕ) (ls : List Line) (n : Model) → end_judged (after r at ls) ≡ model n → r.0 ≡ n
@@ -110,9 +139,9 @@ module _ (s : Text) (t : Table) (x : List ℕ) (n : ℕ) (most : n ≤ all_lines
   all_given = each_keep _ (λ k (c : Class). (row_at t (class_row k)).1 ≡ c.given) 0 m (λ k c _ _ h. h.1) told
 
   -- what `read` says of a text whose classes are all read
-  pub told_end : (so : SoFar) (at : ℕ) (ls : List Line) (v : Verdict) → judged s ≡ end_judged (after (m, so) at ls) → v ≡ verdict_of (end_judged (after (m, so) at ls)) → classes_in t ≡ length m → length x ≡ all_lines
-      → (v ≡ judge s) × ((n : Model) → judged s ≡ model n → Belongs s t n × Shaped t x n)
+  pub told_end : (so : SoFar) (at : ℕ) (ls : List Line) (v : Result (Unit {0}) Verdict) → judged s ≡ end_judged (after (m, so) at ls) → v ≡ accepted_or (end_judged (after (m, so) at ls)) → classes_in t ≡ length m → length x ≡ all_lines
+      → (v ≡ accepted_or (judged s)) × ((n : Model) → judged s ≡ model n → Belongs s t n × Shaped t x n)
   told_end so at ls v e f b l = (
-    f ∙ sym (judge_verdict s ∙ ap verdict_of e),
+    f ∙ sym (ap accepted_or e),
     λ n g. subst (λ k. Belongs s t k × Shaped t x k) (end_model (m, so) at ls n (sym e ∙ g)) (all_belongs b, all_shaped l),
   )

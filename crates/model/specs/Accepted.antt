@@ -1,7 +1,5 @@
 -- What the model of an accepted text is like, in the document's words. Assumes nothing.
-use Rattle.std.specs.Prelude.{ℕ, ◌-◌, ◌≤◌, List, [], map, ◌≡◌, length, get_or, take}
-use Rattle.std.proofs.Math.Option.{some}
-use Rattle.std.proofs.Math.ListN.{get_elem?}
+use Rattle.std.specs.Prelude.{ℕ, ◌-◌, ◌≤◌, List, [], map, ◌≡◌, length, get_or, take, Some, slice_get}
 use Rattle.whole.specs.Lists.{Every, EachFrom, total_of}
 use Rattle.layout.specs.Layout.{most_attributes, most_locals}
 use Rattle.code.specs.declared.Shape.{Shape}
@@ -14,9 +12,9 @@ use Rattle.model.specs.Model.{Method, Class, Model}
 -- the lines of a method, as far as blocks go
 pub record AcceptedBlocks (ls : List Shape) : Type 0 where
   -- "Every `if` has one `else` and one `fi`": each block that is opened is closed
-  pub close : through_all ls [] ≡ some []
+  pub close : through_all ls [] ≡ Some []
   -- "Blocks nest at most 8 deep.": as many at most are open after the first i lines
-  pub depth : (i : ℕ) (bs : List Block) → through_all (take i ls) [] ≡ some bs → length bs ≤ deepest
+  pub depth : (i : ℕ) (bs : List Block) → through_all (take i ls) [] ≡ Some bs → length bs ≤ deepest
   -- "A method's last line is a `return` outside all blocks."
   pub ends : get_or ls (length ls - 1) Shape.Plain ≡ Shape.Return
 
@@ -52,7 +50,7 @@ pub record AcceptedClass (classes k : ℕ) (c : Class) : Type 0 where
 
 -- "`new X K E,..` with exactly the given count of class K": of a line that is a `new`, and nothing of another
 unfoldable pub AcceptedNew : Model → Code → Type 0
-AcceptedNew m c = (n : ℕ × ℕ) → new_of c ≡ some n → (k : Class) → get_elem? m n.0 ≡ some k → n.1 ≡ k.given
+AcceptedNew m c = (n : ℕ × ℕ) → new_of c ≡ Some n → (k : Class) → slice_get m n.0 ≡ Some k → n.1 ≡ k.given
 
 -- a whole model
 pub record AcceptedModel (m : Model) : Type 0 where

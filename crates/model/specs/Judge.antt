@@ -1,7 +1,5 @@
 -- The verdict on every list of bytes, and the model that an accepted text gives. Assumes nothing.
-use Rattle.std.specs.Prelude.{ℕ, true, false, List, [], ◌∷◌, ltb, eqb, length}
-use Rattle.std.proofs.Math.Option.{none, some}
-use Rattle.std.proofs.Math.ListN.{get_elem?}
+use Rattle.std.specs.Prelude.{ℕ, true, false, List, [], ◌∷◌, ltb, eqb, length, None, Some, slice_get}
 use Rattle.whole.specs.Refusals.{accepted, text_too_long, broken_line, wrong_key, wrong_code}
 use Rattle.terms.specs.Bytes.{Text}
 use Rattle.text.specs.declared.Verdict.{Verdict}
@@ -17,7 +15,7 @@ pub data Judged : Type 0 where
 
 -- the arguments that a class is to be given
 unfoldable pub given_to : Model → ℕ → ℕ
-given_to m k = elim (get_elem? m k) [ none ↦ 0 | some c ↦ c.given ]
+given_to m k = elim (slice_get m k) [ None ↦ 0 | Some c ↦ c.given ]
 
 -- "a wrong count of its arguments is 5 at its line, judged only in a text that passes otherwise"
 unfoldable pub counts_judged : Model → List Creation → Judged

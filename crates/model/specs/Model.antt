@@ -1,7 +1,5 @@
 -- The model that an accepted text gives: classes, methods, statements. And which method a call binds to. Assumes nothing.
-use Rattle.std.specs.Prelude.{ℕ, Bool, true, false, List, eqb}
-use Rattle.std.proofs.Math.Option.{Option, none, some}
-use Rattle.std.proofs.Math.ListN.{get_elem?}
+use Rattle.std.specs.Prelude.{ℕ, Bool, true, false, List, eqb, Option, None, Some, slice_get}
 use Rattle.code.specs.Statements.{Code}
 
 pub record Method : Type 0 where
@@ -23,11 +21,11 @@ unfoldable pub runs : Class → Bool
 runs k = eqb k.run 1
 
 unfoldable pub takes : ℕ → Method → Option Method
-takes args m = elim (eqb m.params args) [ true ↦ some m | false ↦ none ]
+takes args m = elim (eqb m.params args) [ true ↦ Some m | false ↦ None ]
 
 -- "if the callee's class has the method with as many params as args": the method of a class, by its index and the number of arguments
 unfoldable pub method_of : Class → ℕ → ℕ → Option Method
-method_of k j args = elim (get_elem? k.methods j) [ none ↦ none | some m ↦ takes args m ]
+method_of k j args = elim (slice_get k.methods j) [ None ↦ None | Some m ↦ takes args m ]
 
 unfoldable pub binds_to : Model → ℕ → ℕ → ℕ → Option Method
-binds_to m class j args = elim (get_elem? m class) [ none ↦ none | some k ↦ method_of k j args ]
+binds_to m class j args = elim (slice_get m class) [ None ↦ None | Some k ↦ method_of k j args ]

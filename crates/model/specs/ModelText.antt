@@ -1,6 +1,5 @@
 -- "The model text", read in the document's order: a code line, a method, a class, the whole. Assumes nothing.
-use Rattle.std.specs.Prelude.{ℕ, ◌+◌, ◌-◌, min, Bool, true, false, ◌&&◌, List, [], ◌∷◌, ◌++◌, leb, eqb, length}
-use Rattle.std.proofs.Math.Option.{Option, none, some}
+use Rattle.std.specs.Prelude.{ℕ, ◌+◌, ◌-◌, min, Bool, true, false, ◌&&◌, List, [], ◌∷◌, ◌++◌, leb, eqb, length, Option, None, Some}
 use Rattle.whole.specs.Refusals.{wrong_code, wrong_blocks}
 use Rattle.layout.specs.Layout.{most_attributes, most_locals}
 use Rattle.terms.specs.Bytes.{bytes}
@@ -28,7 +27,7 @@ pub record SoFar : Type 0 where
   pub blocks : List Block
 
 unfoldable pub creations_of : ℕ → Code → List Creation
-creations_of at c = elim (new_of c) [ none ↦ [] | some n ↦ record { at = at; class = n.0; count = n.1 } ∷ [] ]
+creations_of at c = elim (new_of c) [ None ↦ [] | Some n ↦ record { at = at; class = n.0; count = n.1 } ∷ [] ]
 
 -- "A method's last line is a `return` outside all blocks." "Blocks nest at most 8 deep."
 unfoldable pub may_stand : Bool → Code → List Block → Bool
@@ -37,8 +36,8 @@ may_stand false c bs = leb (length bs) deepest
 
 -- "`code=`": a statement at a line, which leaves these blocks open or cannot stand there
 unfoldable pub standing : ℕ → Bool → SoFar → Code → Option (List Block) → Taken (Code × SoFar)
-standing at last so c none = wrong wrong_blocks
-standing at last so c (some bs) = elim (may_stand last c bs) [
+standing at last so c None = wrong wrong_blocks
+standing at last so c (Some bs) = elim (may_stand last c bs) [
   | false ↦ wrong wrong_blocks
   | true ↦ right (c, record { total = so.total; creations = so.creations ++ creations_of at c; blocks = bs })
 ]

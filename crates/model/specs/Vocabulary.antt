@@ -2,6 +2,7 @@
 -- document 01 uses it.
 pub mod Belonging
 pub mod Creations
+pub mod Judging
 pub mod Known
 pub mod Leaving
 pub mod Standing

@@ -32,7 +32,7 @@ pub fn most_given(class: u32, attrs: u32) -> u32
 pub fn least_run(class: u32) -> u32
     ensures { result ≡ 1 - class }
 {
-    if class == 0 { 1 } else { 0 }
+    u32::from(class == 0)
 }
 
 // "Where run is 1, method 0 has params 0."
@@ -40,13 +40,11 @@ pub fn least_run(class: u32) -> u32
 pub fn most_params(run: u32, method: u32) -> u32
     ensures { result ≡ ModelText.zero_if (eqb run 1 && eqb method 0) Bounds.most_params }
 {
-    if run != 1 {
-        return MOST_PARAMS;
+    if run == 1 && method == 0 {
+        0
+    } else {
+        MOST_PARAMS
     }
-    if method != 0 {
-        return MOST_PARAMS;
-    }
-    0
 }
 
 // The 64, or what is left of the 512 after so many lines.
@@ -54,6 +52,5 @@ pub fn most_lines(total: u32) -> u32
     requires { total ≤ 512 }
     ensures { result ≡ min Bounds.most_lines (Bounds.all_lines - total) }
 {
-    let left = ALL_LINES - total;
-    if left < MOST_LINES { left } else { MOST_LINES }
+    MOST_LINES.min(ALL_LINES - total)
 }

@@ -4,108 +4,72 @@ ghost use Rattle.text.specs.InOrder as InOrder;
 ghost use Rattle.text.specs.Vocabulary.Readings as Readings;
 ghost use Rattle.model.specs.ModelText as ModelText;
 ghost use Rattle.model.specs.Vocabulary.Leaving as Leaving;
-ghost use Rattle.model.specs.Vocabulary.Table as Table;
 
-use crate::{ClassHead, Row, bounds, methods, table};
-use text::{At, Read, key_lines};
+use crate::{ClassHead, Row, Rows, bounds, methods, table};
+use text::{At, Failed, key_lines};
 
-// So many methods, after so many code lines.
+// So many methods, after so many code lines. This loop, that of the classes and that of the code lines stay three: what each leaves is said of
+// the rows that it writes, and of what a closure writes nothing would be known after it.
 fn all_methods(
     text: &[u8],
-    table: &mut [u16],
-    shapes: &mut [u8],
+    rows: &mut Rows,
     at: At,
     class: ClassHead,
     count: u32,
     total: u32,
-) -> Read
-    requires sized { Table.Sized table.old shapes.old }
+) -> Result<(u32, At), Failed>
     requires placed { Readings.Placed text.now at }
-    requires index_lt_classes { (class.index < class.classes) × (class.classes ≤ 16) × (count ≤ 8) × (total ≤ 512) }
-    ensures { Readings.Tells text.now (Leaving.MethodsLeft text.now table.old shapes.old table.new shapes.new class count total) result (Readings.read_at (InOrder.each count 0 (Leaving.between table.old total) (ModelText.read_method class.classes class.attrs class.run)) text.now at) }
+    requires count_bound { (count ≤ 8) × (total ≤ 512) }
+    ensures { Readings.Tells text.now (Leaving.MethodsLeft text.now rows.old.table rows.old.shapes rows.new.table rows.new.shapes class count total) result (Readings.read_at (InOrder.each count 0 (Leaving.between rows.old.table total) (ModelText.read_method class.classes class.attrs class.run)) text.now at) }
 {
     let mut here = at;
     let mut all = total;
-    let mut j = 0;
-    while j < count {
-        match methods::method(text, table, shapes, here, class, j, all) {
-            Read::Failed(number, refused) => return Read::Failed(number, refused),
-            Read::Got(after, next) => {
-                all = after;
-                here = next;
-            }
-        }
-        j += 1;
+    for j in 0..count {
+        (all, here) = methods::method(text, rows, here, class, j, all)?;
     }
-    Read::Got(all, here)
+    Ok((all, here))
 }
 
 // A class by its index, after so many code lines.
-#[tactic(auto, unfolding(text::specs::Lines::plain_byte, text::specs::Lines::plain_bytes))]
+#[tactic(auto, using(crate::proofs::Passing::most, crate::proofs::Passing::next_placed), unfolding(text::specs::Lines::plain_byte, text::specs::Lines::plain_bytes))]
 pub fn class(
     text: &[u8],
-    table: &mut [u16],
-    shapes: &mut [u8],
+    rows: &mut Rows,
     at: At,
     classes: u32,
     k: u32,
     total: u32,
-) -> Read
-    requires sized { Table.Sized table.old shapes.old }
+) -> Result<(u32, At), Failed>
     requires placed { Readings.Placed text.now at }
     requires k_lt_classes { (k < classes) × (classes ≤ 16) × (total ≤ 512) }
-    ensures { Readings.Tells text.now (Leaving.ClassLeft text.now table.old shapes.old table.new shapes.new classes k total) result (Readings.read_at (ModelText.read_class classes k (Leaving.between table.old total)) text.now at) }
+    ensures { Readings.Tells text.now (Leaving.ClassLeft text.now rows.old.table rows.old.shapes rows.new.table rows.new.shapes classes k total) result (Readings.read_at (ModelText.read_class classes k (Leaving.between rows.old.table total)) text.now at) }
 {
-    let read = key_lines::number_line(text, at, b"class=", k, k);
-    let Read::Got(_, at) = read else {
-        return read;
-    };
-    let read = key_lines::number_line(text, at, b"attrs=", 0, bounds::MOST_ATTRIBUTES);
-    let Read::Got(attrs, at) = read else {
-        return read;
-    };
-    let read = key_lines::number_line(text, at, b"given=", 0, bounds::most_given(k, attrs));
-    let Read::Got(given, at) = read else {
-        return read;
-    };
-    let read = key_lines::number_line(text, at, b"run=", bounds::least_run(k), 1);
-    let Read::Got(run, at) = read else {
-        return read;
-    };
-    let read = key_lines::number_line(text, at, b"methods=", run, bounds::MOST_METHODS);
-    let Read::Got(count, at) = read else {
-        return read;
-    };
+    let (_, at) = key_lines::number_line(text, at, b"class=", k, k)?;
+    let (attrs, at) = key_lines::number_line(text, at, b"attrs=", 0, bounds::MOST_ATTRIBUTES)?;
+    let (given, at) = key_lines::number_line(text, at, b"given=", 0, bounds::most_given(k, attrs))?;
+    let (run, at) = key_lines::number_line(text, at, b"run=", bounds::least_run(k), 1)?;
+    let (count, at) = key_lines::number_line(text, at, b"methods=", run, bounds::MOST_METHODS)?;
     let head = ClassHead {
         classes,
         index: k,
         attrs,
         run,
     };
-    let read = all_methods(text, table, shapes, at, head, count, total);
-    table::put(table, k as usize, Row(attrs, given, run, count));
-    read
+    let read = all_methods(text, rows, at, head, count, total)?;
+    table::put(&mut rows.table, k as usize, Row(attrs, given, run, count));
+    Ok(read)
 }
 
 // So many classes.
-pub fn all_classes(text: &[u8], table: &mut [u16], shapes: &mut [u8], at: At, count: u32) -> Read
-    requires sized { Table.Sized table.old shapes.old }
+pub fn all_classes(text: &[u8], rows: &mut Rows, at: At, count: u32) -> Result<(u32, At), Failed>
     requires placed { Readings.Placed text.now at }
     requires count_bound { count ≤ 16 }
-    ensures { Readings.Tells text.now (Leaving.ClassesLeft text.now table.old shapes.old table.new shapes.new count count) result (Readings.read_at (InOrder.each count 0 (Leaving.between table.old 0) (ModelText.read_class count)) text.now at) }
+    ensures { Readings.Tells text.now (Leaving.ClassesLeft text.now rows.old.table rows.old.shapes rows.new.table rows.new.shapes count count) result (Readings.read_at (InOrder.each count 0 (Leaving.between rows.old.table 0) (ModelText.read_class count)) text.now at) }
 {
     let mut here = at;
     let mut all = 0;
-    let mut k = 0;
-    while k < count {
-        match class(text, table, shapes, here, count, k, all) {
-            Read::Failed(number, refused) => return Read::Failed(number, refused),
-            Read::Got(after, next) => {
-                all = after;
-                here = next;
-            }
-        }
-        k += 1;
+    for k in 0..count {
+        (all, here) = class(text, rows, here, count, k, all)?;
     }
-    Read::Got(all, here)
+    Ok((all, here))
 }

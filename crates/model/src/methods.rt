@@ -5,67 +5,44 @@ ghost use Rattle.text.specs.Vocabulary.Readings as Readings;
 ghost use Rattle.model.specs.ModelText as ModelText;
 ghost use Rattle.model.specs.Vocabulary.Leaving as Leaving;
 ghost use Rattle.model.specs.Vocabulary.Standing as Standing;
-ghost use Rattle.model.specs.Vocabulary.Table as Table;
 
-use crate::{ClassHead, MethodHead, Row, bounds, code_lines, table};
-use text::{At, Read, key_lines};
+use crate::{ClassHead, MethodHead, Row, Rows, bounds, code_lines, table};
+use text::{At, Failed, key_lines};
 
 // So many code lines, from no open block on.
 #[tactic(auto, using(crate::proofs::Loops::lines_begun_lem))]
-fn all_lines(text: &[u8], table: &mut [u16], shapes: &mut [u8], at: At, method: MethodHead) -> Read
-    requires sized { Table.Sized table.old shapes.old }
+fn all_lines(text: &[u8], rows: &mut Rows, at: At, method: MethodHead) -> Result<(u32, At), Failed>
     requires placed { Readings.Placed text.now at }
-    requires classes_nonzero { (0 < method.classes) × (method.classes ≤ 16) × (0 < method.count) × (method.first + method.count ≤ 512) }
-    ensures { Readings.Tells text.now (Leaving.CodeLeft text.now table.old shapes.old table.new shapes.new method) result (Readings.read_at (InOrder.each method.count 0 (Leaving.so_far table.old method.first (method.first + method.count) []) (ModelText.code_line (Standing.limits_of method) method.classes method.count)) text.now at) }
+    requires lines_bound { (0 < method.count) × (method.first + method.count ≤ 512) }
+    ensures { Readings.Tells text.now (Leaving.CodeLeft text.now rows.old.table rows.old.shapes rows.new.table rows.new.shapes method) result (Readings.read_at (InOrder.each method.count 0 (Leaving.so_far rows.old.table method.first (method.first + method.count) []) (ModelText.code_line (Standing.limits_of method) method.classes method.count)) text.now at) }
 {
     let mut here = at;
     let mut blocks = 0;
-    let mut i = 0;
-    while i < method.count {
-        match code_lines::code_line(text, table, shapes, here, method, i, blocks) {
-            Read::Failed(number, refused) => return Read::Failed(number, refused),
-            Read::Got(after, next) => {
-                blocks = after;
-                here = next;
-            }
-        }
-        i += 1;
+    for i in 0..method.count {
+        (blocks, here) = code_lines::code_line(text, rows, here, method, i, blocks)?;
     }
-    Read::Got(method.first + method.count, here)
+    Ok((method.first + method.count, here))
 }
 
 // A method by its index in its class, after so many code lines.
-#[tactic(auto, unfolding(text::specs::Lines::plain_byte, text::specs::Lines::plain_bytes))]
+#[tactic(auto, using(crate::proofs::Passing::least, crate::proofs::Passing::most, crate::proofs::Passing::next_placed), unfolding(text::specs::Lines::plain_byte, text::specs::Lines::plain_bytes))]
 pub fn method(
     text: &[u8],
-    table: &mut [u16],
-    shapes: &mut [u8],
+    rows: &mut Rows,
     at: At,
     class: ClassHead,
     j: u32,
     total: u32,
-) -> Read
-    requires sized { Table.Sized table.old shapes.old }
+) -> Result<(u32, At), Failed>
     requires placed { Readings.Placed text.now at }
-    requires index_lt_classes { (class.index < class.classes) × (class.classes ≤ 16) × (j < 8) × (total ≤ 512) }
-    ensures { Readings.Tells text.now (Leaving.MethodLeft text.now table.old shapes.old table.new shapes.new class j total) result (Readings.read_at (ModelText.read_method class.classes class.attrs class.run j (Leaving.between table.old total)) text.now at) }
+    requires j_bound { (j < 8) × (total ≤ 512) }
+    ensures { Readings.Tells text.now (Leaving.MethodLeft text.now rows.old.table rows.old.shapes rows.new.table rows.new.shapes class j total) result (Readings.read_at (ModelText.read_method class.classes class.attrs class.run j (Leaving.between rows.old.table total)) text.now at) }
 {
-    let read = key_lines::number_line(text, at, b"method=", j, j);
-    let Read::Got(_, at) = read else {
-        return read;
-    };
-    let read = key_lines::number_line(text, at, b"params=", 0, bounds::most_params(class.run, j));
-    let Read::Got(params, at) = read else {
-        return read;
-    };
-    let read = key_lines::number_line(text, at, b"locals=", params, bounds::MOST_LOCALS);
-    let Read::Got(locals, at) = read else {
-        return read;
-    };
-    let read = key_lines::number_line(text, at, b"lines=", 1, bounds::most_lines(total));
-    let Read::Got(count, at) = read else {
-        return read;
-    };
+    let (_, at) = key_lines::number_line(text, at, b"method=", j, j)?;
+    let highest = bounds::most_params(class.run, j);
+    let (params, at) = key_lines::number_line(text, at, b"params=", 0, highest)?;
+    let (locals, at) = key_lines::number_line(text, at, b"locals=", params, bounds::MOST_LOCALS)?;
+    let (count, at) = key_lines::number_line(text, at, b"lines=", 1, bounds::most_lines(total))?;
     let head = MethodHead {
         classes: class.classes,
         attrs: class.attrs,
@@ -73,8 +50,8 @@ pub fn method(
         count,
         first: total,
     };
-    let read = all_lines(text, table, shapes, at, head);
+    let read = all_lines(text, rows, at, head)?;
     let place = table::method_place(class.index, j);
-    table::put(table, place, Row(params, locals, count, total));
-    read
+    table::put(&mut rows.table, place, Row(params, locals, count, total));
+    Ok(read)
 }

@@ -1,6 +1,8 @@
 // The table of a text: rows of four numbers, by which later parts find its lines; and the shape of each code line. Every number of a text fits
 // in 16 bits, and a table of such numbers is cleared in half the time.
-ghost use Rattle.std.specs.Prelude.{◌≡◌, ◌<◌, length};
+// Flat, and no array of rows: every law of `lookup` and `checking` speaks of the places of its numbers (`row_at`), and rows of `u16` would be no
+// plainer, since `Row` gives `u32`.
+ghost use Rattle.std.specs.Prelude.{◌≡◌, ◌<◌};
 ghost use Rattle.model.specs.Vocabulary.Table as Table;
 
 use crate::{Row, bounds};
@@ -23,8 +25,7 @@ pub const MODEL: usize = FIRST_CODE + LINES;
 
 // The four numbers of a row.
 #[tactic(auto, unfolding(crate::specs::Vocabulary::Table::row_at))]
-pub fn row(table: &[u16], r: usize) -> Row
-    requires table_len { length table.now ≡ Table.table_size }
+pub fn row(table: &[u16; SIZE], r: usize) -> Row
     requires r_bound { r < Table.rows }
     ensures { result ≡ Table.row_at table.now r }
 {
@@ -39,18 +40,15 @@ pub fn row(table: &[u16], r: usize) -> Row
 
 // How many classes the model has.
 #[tactic(auto, unfolding(crate::specs::Vocabulary::Table::classes_in))]
-pub fn classes(table: &[u16]) -> u32
-    requires { length table.now ≡ Table.table_size }
+pub fn classes(table: &[u16; SIZE]) -> u32
     ensures { result ≡ Table.classes_in table.now }
 {
-    let own = row(table, MODEL);
-    own.0
+    row(table, MODEL).0
 }
 
 // Four numbers in the place of a row's.
 #[tactic(auto, unfolding(crate::specs::Vocabulary::Table::put))]
-pub fn put(table: &mut [u16], r: usize, row: Row)
-    requires table_len { length table.old ≡ Table.table_size }
+pub fn put(table: &mut [u16; SIZE], r: usize, row: Row)
     requires r_bound { r < Table.rows }
     requires small { Table.Small row }
     ensures { table.new ≡ Table.put table.old r row }
@@ -62,7 +60,8 @@ pub fn put(table: &mut [u16], r: usize, row: Row)
     table[at + 3] = row.3 as u16;
 }
 
-// The number of a method's row.
+// The number of a method's row. The bounds of both numbers stay clauses: of a class and a method in one type each caller would say as much when
+// it makes one.
 pub fn method_place(class: u32, method: u32) -> usize
     requires class_bound { class < 16 }
     requires method_bound { method < 8 }
@@ -72,8 +71,7 @@ pub fn method_place(class: u32, method: u32) -> usize
 }
 
 // A method's row.
-pub fn method_row(table: &[u16], class: u32, method: u32) -> Row
-    requires table_len { length table.now ≡ Table.table_size }
+pub fn method_row(table: &[u16; SIZE], class: u32, method: u32) -> Row
     requires class_bound { class < 16 }
     requires method_bound { method < 8 }
     ensures { result ≡ Table.row_at table.now (Table.method_row class method) }
@@ -82,8 +80,7 @@ pub fn method_row(table: &[u16], class: u32, method: u32) -> Row
 }
 
 // A code line's row, by the number of the line among all code lines.
-pub fn code_row(table: &[u16], line: u32) -> Row
-    requires table_len { length table.now ≡ Table.table_size }
+pub fn code_row(table: &[u16; SIZE], line: u32) -> Row
     requires line_bound { line < 512 }
     ensures { result ≡ Table.row_at table.now (Table.code_row line) }
 {

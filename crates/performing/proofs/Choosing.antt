@@ -1,27 +1,33 @@
 -- What a rule gives by its tests: a stage, a body, a kind, and the callee of a label in use. Assumes nothing.
-use Prim.Native.Nat.{ℕ, zero, suc, ◌^◌, ◌≤◌, ◌<◌}
+use Rattle.std.specs.Prelude.{Option, None, Some, Result, Ok, Err, ok_or, IsErrAnd}
+use Prim.Native.Nat.{ℕ, ◌^◌, ◌≤◌, ◌<◌}
 use mathlib.Core.Bool.{Bool, true, false}
-use mathlib.Core.Option.{Option, none, some}
 use mathlib.Core.Path.{◌≡◌, refl, sym, ap, subst, ◌∙◌}
 use native.Mathlib.Omega.{arith}
-use lib.IntN.{ℤ, pos, negsuc}
+use lib.IntN.{ℤ, pos}
+use lib.Signed.{mag}
 use mir.Syntax.{w32}
-use mir.Val.{SFits, to_z, of_z}
-use mir.ValLaws.{to_z_pos, to_z-of_z}
-use Rattle.whole.specs.declared.Worked.{Worked}
-use Rattle.whole.specs.declared.Worked.TheVariants.{Value}
-use Rattle.whole.specs.Refusals.{not_in_use, no_such_method}
-use Rattle.whole.specs.Whole.{natural, between}
-use Rattle.whole.proofs.Tested.{no_some, numbered, of_natural, nat_of}
-use Rattle.layout.specs.Layout.{Cells, read, objects, object_rows, of_call, callee}
+use mir.Val.{to_z, of_z}
+use Rattle.whole.specs.Whole.{Worked, natural, between, is_true, eq_z}
+use Rattle.whole.specs.Refusals.{not_in_use, no_such_method, not_ready}
+use Rattle.whole.specs.declared.refusals.Refusal.{Refusal}
+use Rattle.whole.specs.declared.refusals.Refusal.TheVariants.{NotInUse}
+use Rattle.whole.proofs.Ranges.{handed}
+use Rattle.whole.specs.Vocabulary.Refusing.{Answer, number_of}
+use Rattle.whole.proofs.Tested.{numbered, of_natural, nat_of}
+use Rattle.layout.specs.Layout.{Cells, read, objects, object_rows, of_object, of_call, callee, running_label}
 use Rattle.layout.specs.Stages.{queued, bound, in_stage, staged, objects_in_use, rows_in_use, object_of, label_of}
+use Rattle.layout.specs.declared.Label.{Label}
+use Rattle.layout.specs.declared.ObjectNumber.{ObjectNumber}
+use Rattle.layout.specs.Vocabulary.Found.{as_label, as_object}
+use Rattle.layout.proofs.Numbers as Numbers
 use Rattle.layout.proofs.Numbers.{count_cell}
-use Rattle.code.specs.declared.ReadStatement.{ReadStatement}
-use Rattle.code.specs.declared.ReadStatement.TheVariants as Read
+use Rattle.code.specs.declared.Arguments.{Arguments}
 use Rattle.code.specs.declared.Statement as Declared
 use Rattle.code.specs.Statements.{Statement, skip, set, new, call, get, await, if, else, fi, while, od, return}
 use Rattle.code.specs.Vocabulary.Answers.{as_statement}
 use Rattle.model.specs.Model.{Model}
+use Rattle.model.specs.Vocabulary.Known.{model_of}
 use Rattle.model.specs.Vocabulary.Table.{Table}
 use Rattle.cells.specs.Configuration.{is_configuration}
 use Rattle.cells.specs.Standing.{Standing, body_of, standing_of}
@@ -30,32 +36,32 @@ use Rattle.cells.proofs.FromTest.{up_to_number}
 use Rattle.rules.specs.declared.Choice.{Choice}
 use Rattle.rules.specs.Exec as Exec
 use Rattle.rules.specs.Exec.{here, worked_out}
+use Rattle.rules.specs.declared.Kind.{Kind}
 use Rattle.rules.specs.Kinds as Kinds
 use Rattle.rules.specs.Kinds.{kind_of}
 use Rattle.rules.specs.Messages as Messages
-use Rattle.rules.specs.Messages.{ready_at, ready, start_in, start}
-use Rattle.rules.specs.Next.{Next, refused, moved, must}
+use Rattle.rules.specs.Messages.{ready_at, ready, start_in, start, started}
+use Rattle.rules.specs.Next.{Next, refused, moved, must, working}
 use Rattle.rules.specs.Step.{ruled, next}
-use Rattle.lookup.specs.declared.Body as Bodied
-use Rattle.lookup.specs.declared.BodyFound.{BodyFound}
-use Rattle.lookup.specs.declared.BodyFound.TheVariants as Body
-use Rattle.lookup.specs.declared.Standing as Kept
-use Rattle.lookup.specs.declared.StandingFound.{StandingFound}
-use Rattle.lookup.specs.declared.StandingFound.TheVariants as Stood
+use Rattle.lookup.specs.declared.Body.{Body}
+use Rattle.lookup.specs.declared.Standing as Placed
+use Rattle.lookup.specs.Vocabulary.Programs as Kept
 use Rattle.lookup.specs.Vocabulary.Found.{BodyIs, BodySaid, StandingIs, StandingSaid}
+use Rattle.lookup.proofs.Saying.{object_is}
 use Rattle.forms.specs.Vocabulary.Done.{Done}
-use Rattle.forms.proofs.Written.{not_performed}
-use Rattle.performing.specs.Vocabulary.Parts.{InUse, ready_said, labelled, at_label}
+use Rattle.forms.proofs.Written.{not_performed, there, not_found}
+use Rattle.forms.proofs.MakingLaws.{same_done, object_some, object_none}
+use Rattle.performing.specs.Vocabulary.Parts.{InUse, ready_said}
 
 -- a test that passed, and one that did not
-module _ (c : Cells) (b : Bool) (n : ℕ) (k : Next) where
-  pub must_passed : (d : Cells) (r : ℕ) → b ≡ true → Done c k r d → Done c (must b n k) r d
+module _ (c : Cells) (b : Bool) (k : Next) where
+  pub must_passed : (n : ℕ) (d : Cells) (r : Answer) → b ≡ true → Done c k r d → Done c (must b n k) r d
   unfolding must
-  must_passed d r e h = subst (λ t. Done c (must t n k) r d) (sym e) h
+  must_passed n d r e h = subst (λ t. Done c (must t n k) r d) (sym e) h
 
-  pub must_failed : b ≡ false → Done c (must b n k) n c
+  pub must_failed : (n : Refusal) → b ≡ false → Done c (must b (number_of n) k) (Err n) c
   unfolding must
-  must_failed e = subst (λ t. Done c (must t n k) n c) (sym e) (not_performed c n)
+  must_failed n e = subst (λ t. Done c (must t (number_of n) k) (Err n) c) (sym e) (not_performed c n)
 
 -- whether a call is ready at a statement that was read with its values
 pub ready_said_lem : (w : Statement Worked Worked) → ready_said (as_statement w) ≡ ready_at w
@@ -74,46 +80,74 @@ ready_said_lem od = refl
 ready_said_lem (return w) = refl
 
 -- what was found of where a call stands: nowhere, where it is ready, or at a line
-module _ (t : Table) (m : Model) (c : Cells) (l : ℕ) (r : StandingFound) (said : StandingSaid t m c l r) where
-  pub ready_nowhere : (o : ℕ) → r ≡ Stood.Nothing → ready m c o l ≡ Value (pos 1)
-  unfolding ready StandingSaid
-  ready_nowhere o e = let f : standing_of m c l ≡ none = subst (StandingSaid t m c l) e said in rw (f, ready)
+module _ (t : Table) (m : Model) (c : Cells) (l : ℕ) (r : Option Placed.Standing) (said : StandingSaid t m c l r) where
+  pub stands_nowhere : r ≡ None → standing_of m c l ≡ None
+  unfolding StandingSaid
+  stands_nowhere e = subst (StandingSaid t m c l) e said
 
-  pub stands_there : (d : Kept.Standing) → r ≡ Stood.At d → StandingIs t m c l d
+  pub ready_nowhere : (o : ℕ) → r ≡ None → ready m c o l ≡ Some (pos 1)
+  unfolding ready
+  ready_nowhere o e = rw (stands_nowhere e, ready)
+
+  pub stands_there : (d : Placed.Standing) → r ≡ Some d → StandingIs t m c l d
   unfolding StandingSaid
   stands_there d e = subst (StandingSaid t m c l) e said
 
+  -- at a line of a program, by the table that it gave
+  pub stands_kept : (k p : Kept.Kept) → k ≡ p → t ≡ p.table → m ≡ model_of p.text → (d : Placed.Standing) → r ≡ Some d → StandingIs k.table (model_of k.text) c l d
+  stands_kept k p view table model d e = rw (view, ← table, ← model) (stands_there d e)
+
 -- and there it is ready by its statement
-pub ready_there : (m : Model) (c : Cells) (o l : ℕ) (st : Standing) → standing_of m c l ≡ some st → ready m c o l ≡ ready_at (worked_out (here c o l) st.statement)
+pub ready_there : (m : Model) (c : Cells) (o l : ℕ) (st : Standing) → standing_of m c l ≡ Some st → ready m c o l ≡ ready_at (worked_out (here c o l) st.statement)
 unfolding ready
 ready_there m c o l st e = rw (e, ready)
 
 -- a statement that was read is no other one, and was not refused
-statement_in : Declared.Statement → ReadStatement → Declared.Statement
-statement_in d (Read.Got s) = s
-statement_in d (Read.Bad n) = d
+statement_in : Declared.Statement → Result (Declared.Statement × Arguments) ℕ → Declared.Statement
+statement_in d (Ok s) = s.0
+statement_in d (Err n) = d
 
-module _ (r : ReadStatement) (w : Statement Worked Worked) (is : r ≡ Read.Got (as_statement w)) where
-  pub ready_got : (s : Declared.Statement) → r ≡ Read.Got s → ready_said s ≡ ready_at w
-  ready_got s e = let f : s ≡ as_statement w = unfold statement_in in ap (statement_in s) (sym e ∙ is) in ap ready_said f ∙ ready_said_lem w
+module _ (r : Result (Declared.Statement × Arguments) ℕ) (w : Statement Worked Worked) (es : Arguments) (is : r ≡ Ok (as_statement w, es)) where
+  pub ready_got : (s : Declared.Statement) (a : Arguments) → r ≡ Ok (s, a) → ready_said s ≡ ready_at w
+  ready_got s a e = let f : s ≡ as_statement w = unfold statement_in in ap (statement_in s) (sym e ∙ is) in ap ready_said f ∙ ready_said_lem w
 
-  pub not_bad : (n : ℕ) → r ≡ Read.Bad n → ⊥
+  pub not_bad : (n : ℕ) → r ≡ Err n → ⊥
   not_bad n e = let f = sym e ∙ is in let y : ◌≡◌ {A = ℕ} 0 1 = cc in omega arith
 
 -- a call that is bound, by the body that was found
-module _ (t : Table) (m : Model) (c : Cells) (l : ℕ) (is : in_stage c l queued ≡ true) (r : BodyFound) (said : BodySaid t m (body_of m c l) r) where
-  pub bound_none : r ≡ Body.Nothing → Messages.bind m c l ≡ refused no_such_method
+module _ (t : Table) (m : Model) (c : Cells) (l : ℕ) (is : in_stage c l queued ≡ true) (r : Option Body) (said : BodySaid t m (body_of m c l) r) where
+  pub bound_none : r ≡ None → Messages.bind m c l ≡ refused no_such_method
   unfolding Messages.bind must BodySaid
-  bound_none e = let f : body_of m c l ≡ none = subst (BodySaid t m (body_of m c l)) e said in rw (is, f, Messages.bind, must)
+  bound_none e = let f : body_of m c l ≡ None = subst (BodySaid t m (body_of m c l)) e said in rw (is, f, Messages.bind, must)
 
-  pub bound_some : (d : Bodied.Body) → r ≡ Body.Is d → Messages.bind m c l ≡ moved (staged c l bound)
+  pub bound_some : (d : Body) → r ≡ Some d → Messages.bind m c l ≡ moved (staged c l bound)
   unfolding Messages.bind must BodySaid
   bound_some d e = let f : BodyIs t m (body_of m c l) d = subst (BodySaid t m (body_of m c l)) e said in rw (is, f.is, Messages.bind, must)
 
--- a start by the number of the callee
-pub started_in : (m : Model) (c : Cells) (l o : ℕ) → natural (of_call c l callee) ≡ some o → start m c l ≡ start_in m c o l
-unfolding start
-started_in m c l o e = ap (λ n. start_in m c n l) (nat_of (of_natural _ _ e))
+-- a start of a bound call, by the number of its callee: a busy callee refuses, and in an idle one the guard decides
+module _ (m : Model) (c : Cells) (l o : ℕ) (is : in_stage c l bound ≡ true) (callee_is : natural (of_call c l callee) ≡ Some o) (z : ℤ) (told : z ≡ of_object c o running_label) where
+  started_in : start m c l ≡ start_in m c o l
+  unfolding start
+  started_in = ap (λ n. start_in m c n l) (nat_of (of_natural _ _ callee_is))
+
+  pub start_busy : eq_z z (pos 0) ≡ false → Done c (start m c l) (Err Refusal.ObjectBusy) c
+  unfolding start_in number_of
+  start_busy busy =
+      same_done c _ _ _ c started_in
+      (must_passed c _ _ _ c _ is (must_failed c _ _ Refusal.ObjectBusy (ap (λ y. eq_z y (pos 0)) (sym told) ∙ busy)))
+
+  pub start_idle : eq_z z (pos 0) ≡ true → (r : Answer) (d : Cells)
+      → Done c (working (ready m c o l) (λ y. must (is_true y) not_ready (moved (started c o l)))) r d → Done c (start m c l) r d
+  unfolding start_in
+  start_idle idle r d h =
+      same_done c _ _ r d started_in (must_passed c _ _ _ d r is (must_passed c _ _ _ d r (ap (λ y. eq_z y (pos 0)) (sym told) ∙ idle) h))
+
+-- the callee that was found
+pub callee_found : (c : Cells) (l : ℕ) (z : ℤ) → mag z < 2147483648 → z ≡ of_call c l callee → between (pos 1) (read c objects) (of_call c l callee) ≡ true
+    → (found : Option ObjectNumber) → found ≡ as_object (object_of c (to_z w32 (of_z w32 z)))
+    → (k : Refusal) (o : ObjectNumber) → Ok o ≡ ok_or found k → natural (of_call c l callee) ≡ Some o.0
+callee_found c l z small is within found told k o e =
+    object_is _ _ within o (sym (told ∙ ap (λ z. as_object (object_of c z)) (handed z _ small is)) ∙ there found k o e)
 
 -- a label in use has a callee in use, and there are few of both
 module _ (m : Model) (c : Cells) (e : is_configuration m c ≡ true) where
@@ -133,86 +167,73 @@ module _ (m : Model) (c : Cells) (e : is_configuration m c ≡ true) where
     label_few = omega (arith, h.1, (configured m c e).calls.most)
 
 -- a label that was found is in use
-pub label_within : (c : Cells) (z : ℤ) (l : ℕ) → label_of c z ≡ some l → InUse c l
+pub label_within : (c : Cells) (z : ℤ) (l : ℕ) → label_of c z ≡ Some l → InUse c l
 unfolding label_of
 label_within c z l e = let n = up_to_number (rows_in_use c) z l e in (omega (arith, n.0.least, n.1), omega (arith, n.0.most, n.1))
 
--- the number of a kind, as the code tests it
-pub kind_is : (z : ℤ) (n : ℕ) → SFits w32 z → n < 2 ^ 31 → of_z w32 z ≡ n → z ≡ pos n
-kind_is z n h k e = sym (to_z-of_z w32 z h) ∙ ap (to_z w32) e ∙ to_z_pos w32 n (omega arith)
-
--- a rule at a label by the number of its kind; any other number has none there
-module _ (m : Model) (c : Cells) (l : ℕ) where
-  pub at_arrive : (z : ℤ) → z ≡ pos 2 → at_label m c z l ≡ Messages.arrive c l
-  unfolding at_label kind_of labelled ruled
-  at_arrive z e = ap (λ z. at_label m c z l) e
-
-  pub at_bind : (z : ℤ) → z ≡ pos 3 → at_label m c z l ≡ Messages.bind m c l
-  unfolding at_label kind_of labelled ruled
-  at_bind z e = ap (λ z. at_label m c z l) e
-
-  pub at_start : (z : ℤ) → z ≡ pos 4 → at_label m c z l ≡ start m c l
-  unfolding at_label kind_of labelled ruled
-  at_start z e = ap (λ z. at_label m c z l) e
-
-  pub at_deliver : (z : ℤ) → z ≡ pos 5 → at_label m c z l ≡ Messages.deliver c l
-  unfolding at_label kind_of labelled ruled
-  at_deliver z e = ap (λ z. at_label m c z l) e
-
-  pub at_none : (z : ℤ) → (of_z w32 z ≡ 2 → ⊥) → (of_z w32 z ≡ 3 → ⊥) → (of_z w32 z ≡ 4 → ⊥) → (of_z w32 z ≡ 5 → ⊥) → at_label m c z l ≡ refused not_in_use
-  unfolding at_label kind_of labelled
-  at_none (pos zero) a b d e = refl
-  at_none (pos (suc zero)) a b d e = refl
-  at_none (pos (suc (suc zero))) a b d e = absurd (a refl)
-  at_none (pos (suc (suc (suc zero)))) a b d e = absurd (b refl)
-  at_none (pos (suc (suc (suc (suc zero))))) a b d e = absurd (d refl)
-  at_none (pos (suc (suc (suc (suc (suc zero)))))) a b d e = absurd (e refl)
-  at_none (pos (suc (suc (suc (suc (suc (suc n))))))) a b d e = refl
-  at_none (negsuc n) a b d e = refl
-
--- exec is the kind of number 1 alone
-kind_exec : (z : ℤ) → kind_of z ≡ some Kinds.exec → of_z w32 z ≡ 1
-unfolding kind_of
-kind_exec (pos zero) e = absurd (no_some e)
-kind_exec (pos (suc zero)) e = refl
-kind_exec (pos (suc (suc zero))) e = cc
-kind_exec (pos (suc (suc (suc zero)))) e = cc
-kind_exec (pos (suc (suc (suc (suc zero))))) e = cc
-kind_exec (pos (suc (suc (suc (suc (suc zero)))))) e = cc
-kind_exec (pos (suc (suc (suc (suc (suc (suc n))))))) e = absurd (no_some e)
-kind_exec (negsuc n) e = absurd (no_some e)
-
 -- a choice by its kind and what its number names
 module _ (m : Model) (c : Cells) (choice : Choice) where
-  pub exec_none : choice.kind ≡ pos 1 → object_of c choice.number ≡ none → next m c choice ≡ refused not_in_use
-  unfolding next object_of kind_of Kinds.in_use
+  pub no_kind : kind_of choice.kind ≡ None → next m c choice ≡ refused not_in_use
+  unfolding next
+  no_kind e = rw (e, next)
+
+  pub exec_none : kind_of choice.kind ≡ Some Kind.Exec → object_of c choice.number ≡ None → next m c choice ≡ refused not_in_use
+  unfolding next object_of Kinds.in_use
   exec_none e f = rw (e, f, next)
 
-  pub exec_some : (o : ℕ) → choice.kind ≡ pos 1 → object_of c choice.number ≡ some o → next m c choice ≡ Exec.exec m c o
-  unfolding next object_of kind_of Kinds.in_use ruled
-  exec_some o e f = rw (e, f, next)
+  pub exec_some : kind_of choice.kind ≡ Some Kind.Exec → (o : ℕ) → object_of c choice.number ≡ Some o → next m c choice ≡ Exec.exec m c o
+  unfolding next object_of Kinds.in_use ruled
+  exec_some e o f = rw (e, f, next)
 
-  module _ (other : of_z w32 choice.kind ≡ 1 → ⊥) where
-    pub label_none : label_of c choice.number ≡ none → next m c choice ≡ refused not_in_use
-    unfolding next label_of Kinds.in_use
-    label_none f = go (kind_of choice.kind) refl
-      where
-        go : (k : Option Kinds.Kind) → kind_of choice.kind ≡ k → next m c choice ≡ refused not_in_use
-        go none e = rw (e, next)
-        go (some Kinds.exec) e = absurd (other (kind_exec choice.kind e))
-        go (some Kinds.arrive) e = rw (e, f, next)
-        go (some Kinds.bind) e = rw (e, f, next)
-        go (some Kinds.start) e = rw (e, f, next)
-        go (some Kinds.deliver) e = rw (e, f, next)
+  -- of a label
+  module _ (k : Kind) (e : kind_of choice.kind ≡ Some k) (labelled : Kinds.in_use c k ≡ rows_in_use c) where
+    pub label_none : label_of c choice.number ≡ None → next m c choice ≡ refused not_in_use
+    unfolding next label_of
+    label_none f = rw (e, labelled, f, next)
 
-    pub label_some : (l : ℕ) → label_of c choice.number ≡ some l → next m c choice ≡ at_label m c choice.kind l
-    unfolding next label_of Kinds.in_use at_label labelled
-    label_some l f = go (kind_of choice.kind) refl
-      where
-        go : (k : Option Kinds.Kind) → kind_of choice.kind ≡ k → next m c choice ≡ at_label m c choice.kind l
-        go none e = rw (e, next, at_label)
-        go (some Kinds.exec) e = absurd (other (kind_exec choice.kind e))
-        go (some Kinds.arrive) e = rw (e, f, next, at_label)
-        go (some Kinds.bind) e = rw (e, f, next, at_label)
-        go (some Kinds.start) e = rw (e, f, next, at_label)
-        go (some Kinds.deliver) e = rw (e, f, next, at_label)
+    pub label_some : (l : ℕ) → label_of c choice.number ≡ Some l → next m c choice ≡ ruled m c k l
+    unfolding next label_of
+    label_some l f = rw (e, labelled, f, next)
+
+-- a choice as the code tests it: its kind, and what was found of its number
+module _ (m : Model) (c : Cells) (choice : Choice) (small-kind : mag choice.kind < 2147483648) (small-number : mag choice.number < 2147483648) where
+  pub kindless : (y : Refusal) (r : Answer) → Err y ≡ ok_or (kind_of (to_z w32 (of_z w32 choice.kind))) NotInUse → IsErrAnd r (λ q. q ≡ y)
+      → Done c (next m c choice) r c
+  unfolding number_of
+  kindless y r e exit = not_found _ NotInUse c _ y r (rw (handed choice.kind _ small-kind refl) at e) exit (no_kind m c choice)
+
+  module _ (k j : Kind) (named : Ok j ≡ ok_or (kind_of (to_z w32 (of_z w32 choice.kind))) NotInUse) (is : j ≡ k) where
+    kind_is : kind_of choice.kind ≡ Some k
+    kind_is = there _ NotInUse j (rw (handed choice.kind _ small-kind refl) at named) ∙ ap Some is
+
+    -- of exec
+    module _ (exec : k ≡ Kind.Exec) (found : Option ObjectNumber) (told : found ≡ as_object (object_of c (to_z w32 (of_z w32 choice.number)))) where
+      object_told : found ≡ as_object (object_of c choice.number)
+      object_told = told ∙ ap (λ z. as_object (object_of c z)) (handed choice.number _ small-number refl)
+
+      pub no_object : (y : Refusal) (r : Answer) → Err y ≡ ok_or found NotInUse → IsErrAnd r (λ q. q ≡ y) → Done c (next m c choice) r c
+      unfolding number_of
+      no_object y r e exit =
+          not_found found NotInUse c _ y r e exit (λ none. exec_none m c choice (kind_is ∙ ap Some exec) (object_none _ (sym object_told ∙ none)))
+
+      pub at_object : (o : ObjectNumber) → Ok o ≡ ok_or found NotInUse → (r : Answer) (d : Cells) → Done c (Exec.exec m c o.0) r d → Done c (next m c choice) r d
+      at_object o e r d h =
+          same_done c _ _ r d (exec_some m c choice (kind_is ∙ ap Some exec) o.0 (object_some _ o (sym object_told ∙ there found NotInUse o e))) h
+
+    -- of the other kinds
+    module _ (labelled : Kinds.in_use c k ≡ rows_in_use c) (found : Option Label) (told : found ≡ as_label (label_of c (to_z w32 (of_z w32 choice.number)))) where
+      label_told : found ≡ as_label (label_of c choice.number)
+      label_told = told ∙ ap (λ z. as_label (label_of c z)) (handed choice.number _ small-number refl)
+
+      pub no_label : (y : Refusal) (r : Answer) → Err y ≡ ok_or found NotInUse → IsErrAnd r (λ q. q ≡ y) → Done c (next m c choice) r c
+      unfolding number_of
+      no_label y r e exit =
+          not_found found NotInUse c _ y r e exit (λ none. label_none m c choice k kind_is labelled (Numbers.label_none _ (sym label_told ∙ none)))
+
+      pub at_label : (l : Label) → Ok l ≡ ok_or found NotInUse → (r : Answer) (d : Cells) → Done c (ruled m c k l.0) r d → Done c (next m c choice) r d
+      at_label l e r d h =
+          same_done c _ _ r d (label_some m c choice k kind_is labelled l.0 (Numbers.label_some _ l (sym label_told ∙ there found NotInUse l e))) h
+
+-- a label that was found is in use
+pub label_used : (c : Cells) (z : ℤ) (found : Option Label) (l : Label) → found ≡ as_label (label_of c z) → Ok l ≡ ok_or found NotInUse → InUse c l.0
+label_used c z found l told e = label_within c z l.0 (Numbers.label_some _ l (sym told ∙ there found NotInUse l e))

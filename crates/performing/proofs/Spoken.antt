@@ -1,13 +1,14 @@
 -- A statement as the code has it, with its arguments beside it, and the statement of the definitions that it was made from: what it does, the
 -- numbers in it, and the laws of `exec`. Assumes nothing.
+use Rattle.std.specs.Prelude.{None, Some, Result, Ok, Err, MatchResult}
 use Prim.Native.Nat.{ℕ, ◌+◌, ◌≤◌}
 use mathlib.Core.List.{List, [], ◌∷◌}
-use mathlib.Core.Option.{none, some}
-use mathlib.Core.Path.{◌≡◌, refl, sym, ap, ◌∙◌}
+use mathlib.Core.Path.{◌≡◌, refl, sym, ap, subst, ◌∙◌}
+use mathlib.Core.Logic.{◌⊎◌, inl, inr}
 use native.Mathlib.Omega.{arith}
 use lib.ListN.{length}
-use Rattle.whole.specs.declared.Worked.{Worked}
-use Rattle.whole.specs.declared.Worked.TheVariants.{Value, OutOfRange}
+use Rattle.whole.specs.Vocabulary.Refusing.{Answer}
+use Rattle.whole.specs.Whole.{Worked}
 use Rattle.whole.specs.Refusals.{object_idle, past_the_end}
 use Rattle.layout.specs.Layout.{Cells, of_object, running_label}
 use Rattle.layout.specs.Stages.{label_of}
@@ -88,17 +89,24 @@ module _ (m : Model) (c : Cells) (o l : ℕ) (st : Standing) where
   does_so (return a) = refl
 
   -- so a statement was performed where that was done with whatever arguments these are
-  pub did : (s t : Declared.Statement) (a : Arguments) (w : Statement Worked Worked) (r : ℕ) (d : Cells)
+  pub did : (s t : Declared.Statement) (a : Arguments) (w : Statement Worked Worked) (r : Answer) (d : Cells)
       → s ≡ t → s ≡ as_statement w → a ≡ arguments_of w → ((ws : List Worked) → a ≡ gathered no_arguments ws → Done c (does t ws) r d) → Done c (Exec.performed m c o l st w) r d
   did s t a w r d e f g h =
       same_done c _ _ r d (does_so w ∙ ap (λ s. does s (listed w)) (sym f ∙ e)) (h (listed w) (g ∙ beside w))
+
+  -- the same of one of two statements that do the same
+  pub did_either : (s t u : Declared.Statement) (a : Arguments) (w : Statement Worked Worked) (r : Answer) (d : Cells)
+      → (s ≡ t) ⊎ (s ≡ u) → ((ws : List Worked) → does u ws ≡ does t ws) → s ≡ as_statement w → a ≡ arguments_of w
+      → ((ws : List Worked) → a ≡ gathered no_arguments ws → Done c (does t ws) r d) → Done c (Exec.performed m c o l st w) r d
+  did_either s t u a w r d (inl e) same f g h = did s t a w r d e f g h
+  did_either s t u a w r d (inr e) same f g h = did s u a w r d e f g (λ ws is. same_done c _ _ r d (same ws) (h ws is))
 
 -- arguments that were gathered are as many as they were
 gathered_count : (a : Arguments) (ws : List Worked) → (gathered a ws).count ≡ a.count + length ws
 unfolding gathered with_one
 gathered_count a [] = omega arith
-gathered_count a (Value z ∷ ws) = omega (arith, gathered_count (with_one a (Value z)) ws)
-gathered_count a (OutOfRange ∷ ws) = omega (arith, gathered_count (with_one a OutOfRange) ws)
+gathered_count a (Some z ∷ ws) = omega (arith, gathered_count (with_one a (Some z)) ws)
+gathered_count a (None ∷ ws) = omega (arith, gathered_count (with_one a None) ws)
 
 -- the numbers in a statement of an accepted text are small, as the code has it too
 small_said : (n : ℕ) → n ≤ 16 → (w : Statement Worked Worked) → Reading.Small n w → Small (as_statement w) (arguments_of w)
@@ -120,18 +128,35 @@ pub small : (n : ℕ) → n ≤ 16 → (w : Statement Worked Worked) → Reading
     → (s : Declared.Statement) (a : Arguments) → s ≡ as_statement w → a ≡ arguments_of w → Small s a
 small n few w h s a e f = rw (e, f) (small_said n few w h)
 
+-- what was read, also where its refusal was put in other words
+pub read_still : {A E D : Type 0} (r : Result A E) (s : Result A D) (Q : E → Type 0) (a : A) → MatchResult r (λ x. s ≡ Ok x) Q → r ≡ Ok a → s ≡ Ok a
+read_still r s Q a h e = subst (λ r. MatchResult r (λ x. s ≡ Ok x) Q) e h
+
+module _ {A B D : Type 0} (r : Result (A × B) D) (a b : A × B) (is : r ≡ Ok a) (so : r ≡ Ok b) where
+  same_pair : a ≡ b
+  same_pair = let e : ◌≡◌ {A = Result (A × B) D} (Ok a) (Ok b) = sym is ∙ so in cc
+
+  pub same_left : a.0 ≡ b.0
+  same_left = ap (λ p. p.0) same_pair
+
+  pub same_right : a.1 ≡ b.1
+  same_right = ap (λ p. p.1) same_pair
+
+pub read_fine : {A D : Type 0} (r : Result A D) (a : A) (d : D) → r ≡ Ok a → r ≡ Err d → ⊥
+read_fine {A} {D} r a d e f = let g : ◌≡◌ {A = Result A D} (Ok a) (Err d) = sym e ∙ f in let z : ◌≡◌ {A = ℕ} 0 1 = cc in omega arith
+
 -- what exec gives: an idle object, a call past its end, or its line performed
 module _ (m : Model) (c : Cells) (o : ℕ) where
-  pub exec_idle : label_of c (of_object c o running_label) ≡ none → Exec.exec m c o ≡ refused object_idle
+  pub exec_idle : label_of c (of_object c o running_label) ≡ None → Exec.exec m c o ≡ refused object_idle
   unfolding Exec.exec
   exec_idle e = rw (e, Exec.exec) refl
 
-  module _ (l : ℕ) (e : label_of c (of_object c o running_label) ≡ some l) where
-    pub exec_past : standing_of m c l ≡ none → Exec.exec m c o ≡ refused past_the_end
+  module _ (l : ℕ) (e : label_of c (of_object c o running_label) ≡ Some l) where
+    pub exec_past : standing_of m c l ≡ None → Exec.exec m c o ≡ refused past_the_end
     unfolding Exec.exec
     exec_past f = rw (e, Exec.exec, f) refl
 
-    pub exec_performs : (st : Standing) → standing_of m c l ≡ some st
+    pub exec_performs : (st : Standing) → standing_of m c l ≡ Some st
         → Exec.exec m c o ≡ Exec.performed m c o l st (Exec.worked_out (Exec.here c o l) st.statement)
     unfolding Exec.exec
     exec_performs st f = rw (e, Exec.exec, f) refl

@@ -4,12 +4,11 @@
 ghost use Rattle.std.specs.Prelude.{◌≡◌, ◌≤◌};
 ghost use Rattle.terms.specs.Vocabulary.Readers.{expression_read, guard_read};
 ghost use Rattle.terms.specs.Expressions.{brackets};
-ghost use Rattle.terms.specs.Vocabulary.Answers.{as_value};
+ghost use Rattle.terms.specs.Vocabulary.Answers.{as_result};
 ghost use Rattle.probe.specs.Vocabulary.Packed as Packed;
 
 use layout::{Label, ObjectNumber};
-use terms::{Around, Here, Limits, ReadValue};
-use whole::Worked;
+use terms::{Around, Here, Limits, Parsed};
 
 // The largest place that is told.
 const FARTHEST: usize = 65535;
@@ -18,11 +17,7 @@ fn place(p: usize) -> u64
     ensures value { result ≡ Packed.place p }
     ensures upper_bound { result ≤ 65535 }
 {
-    if p <= FARTHEST {
-        p as u64
-    } else {
-        FARTHEST as u64
-    }
+    p.min(FARTHEST) as u64
 }
 
 // The 32 bits of a value.
@@ -30,23 +25,18 @@ fn bits(z: i32) -> u64
     ensures value { result ≡ Packed.bits z }
     ensures upper_bound { result ≤ 4294967295 }
 {
-    if z < 0 {
-        return (z as i64 + 4294967296) as u64;
-    }
-    z as u64
+    u64::from(z.cast_unsigned())
 }
 
 // What was read as one number: place + 2^16 * kind + 2^32 * value. The kind is 0 for a value, 1 for one out of range, 2 for a refusal.
 #[tactic(auto, unfolding(crate::specs::Vocabulary::Packed::packed_at, crate::specs::Vocabulary::Packed::packed_value))]
-fn pack(r: ReadValue) -> u64
+fn pack(r: Parsed<Option<i32>>) -> u64
     ensures { result ≡ Packed.packed_value r }
 {
     match r {
-        ReadValue::Bad(p) => place(p) + 0x2_0000,
-        ReadValue::Got(p, w) => match w {
-            Worked::OutOfRange => place(p) + 0x1_0000,
-            Worked::Value(z) => place(p) + bits(z) * 0x1_0000_0000,
-        },
+        Ok((p, Some(z))) => place(p) + bits(z) * 0x1_0000_0000,
+        Ok((p, None)) => place(p) + 0x1_0000,
+        Err(p) => place(p) + 0x2_0000,
     }
 }
 
@@ -76,7 +66,7 @@ pub extern "C" fn probe_expression(
     object: u8,
     label: u32,
 ) -> u64
-    ensures { result ≡ Packed.packed_value (as_value (expression_read cells.now (Packed.around attrs locals object label) s.now brackets at)) }
+    ensures { result ≡ Packed.packed_value (as_result (expression_read cells.now (Packed.around attrs locals object label) s.now brackets at)) }
 {
     pack(terms::expressions::expression(
         s,
@@ -97,7 +87,7 @@ pub extern "C" fn probe_guard(
     object: u8,
     label: u32,
 ) -> u64
-    ensures { result ≡ Packed.packed_value (as_value (guard_read cells.now (Packed.around attrs locals object label) s.now brackets at)) }
+    ensures { result ≡ Packed.packed_value (as_result (guard_read cells.now (Packed.around attrs locals object label) s.now brackets at)) }
 {
     pack(terms::guards::guard(
         s,

@@ -1,12 +1,11 @@
 -- Every accepted choice is one of the cases of Acts. Assumes nothing.
+use Rattle.std.specs.Prelude.{Option, None, Some}
 use Prim.Native.Nat.{ℕ, zero, suc, ◌≤◌}
 use mathlib.Core.Bool.{Bool, true, false}
 use mathlib.Core.List.{List, [], ◌∷◌, ◌++◌, map, append_assoc}
-use mathlib.Core.Option.{Option, none, some}
 use mathlib.Core.Path.{◌≡◌, refl, sym, ap, subst, ◌∙◌}
 use lib.IntN.{ℤ, pos, negsuc}
 use lib.ListN.{length, length-map}
-use Rattle.whole.specs.declared.Worked.TheVariants.{Value}
 use Rattle.whole.specs.Plain.{whenever}
 use Rattle.whole.specs.Whole.{is_true, nat}
 use Rattle.whole.specs.Refusals.{not_invoked, not_queued, no_such_method, not_bound, object_busy, not_ready, not_answered, object_rows_full, call_rows_full}
@@ -24,7 +23,9 @@ use Rattle.rules.specs.declared.Choice.{Choice}
 use Rattle.rules.specs.Events.{performing, executing, happening, events_of, issuing, spawning, arriving, binding, returning, delivering}
 use Rattle.rules.specs.Exec.{here, stored, next_object, next_row, object_left, row_left, class_runs, with_object, with_call, worked_out, onward, jumped, assigned, made, created, issued, took_reply, freed, crossed, suspended, awaited, branched, stage_returned, returned, performed}
 use Rattle.rules.specs.Exec as Exec
-use Rattle.rules.specs.Kinds.{Kind, exec, arrive, bind, start, deliver, kind_number, kind_of, in_use, choose}
+use Rattle.rules.specs.declared.Kind.{Kind}
+use Rattle.rules.specs.declared.Kind.TheVariants as Kind
+use Rattle.rules.specs.Kinds.{kind_number, kind_of, in_use, choose}
 use Rattle.rules.specs.Messages as Messages
 use Rattle.rules.specs.Next.{Next, refused, moved, cells_after}
 use Rattle.rules.specs.Step.{ruled, next}
@@ -87,14 +88,14 @@ module _ (m : Model) (c : Cells) (choice : Choice) (o l : ℕ) (at : Standing) (
 
   -- `call`, by the callee
   calling : (x : Variable) (ex : Expression) (j : ℕ) (es : List Expression) (z : ℤ) (zs : List ℤ)
-      (ws : List Write) → at.statement ≡ call x ex j es → value_of (here c o l) ex ≡ Value z → length zs ≡ length es
+      (ws : List Write) → at.statement ≡ call x ex j es → value_of (here c o l) ex ≡ Some z → length zs ≡ length es
       → issued m c o l at x z j zs ≡ moved ws → Act m c choice ws (performing m c (written c ws) o l (call x ex j es))
   unfolding issued performing
   calling x ex j es z zs ws s v n e = go (object_of c z) refl
     where
       go : (f : Option ℕ) → object_of c z ≡ f → Act m c choice ws (performing m c (written c ws) o l (call x ex j es))
-      go none h = absurd (refused_moved (rw (h, issued) at e))
-      go (some to) h =
+      go None h = absurd (refused_moved (rw (h, issued) at e))
+      go (Some to) h =
           let first = must_moved (row_left c) call_rows_full _ ws (rw (h, issued) at e) in
           let f : with_call c invoked o to j zs ++ (stored c o l x (pos (next_row c)) ++ onward m c o l at) ≡ ws = cc (first.1, append_assoc (with_call c invoked o to j zs) (stored c o l x (pos (next_row c))) (onward m c o l at)) in
           subst (λ w. Act m c choice w (issuing (nat (held (here (written c ws) o l) x)) ∷ [])) f
@@ -107,8 +108,8 @@ module _ (m : Model) (c : Cells) (choice : Choice) (o l : ℕ) (at : Standing) (
   getting x y ws s e = go (reply_for c o (held (here c o l) x)) refl
     where
       go : (f : Option ℕ) → reply_for c o (held (here c o l) x) ≡ f → Act m c choice ws (performing m c (written c ws) o l (get x y))
-      go none h = absurd (refused_moved (rw (h, took_reply) at e))
-      go (some from) h =
+      go None h = absurd (refused_moved (rw (h, took_reply) at e))
+      go (Some from) h =
           let f : staged c from taken ++ (stored c o l y (of_call c from value) ++ onward m c o l at) ≡ ws = cc (rw (h, took_reply) at e, append_assoc (staged c from taken) (stored c o l y (of_call c from value)) (onward m c o l at)) in
           subst (λ w. Act m c choice w (performing m c (written c ws) o l (get x y))) f
           (takes o l at r x y from s h (written c ws) (ap (written c) (sym f)))
@@ -140,24 +141,24 @@ module _ (m : Model) (c : Cells) (choice : Choice) (o l : ℕ) (at : Standing) (
       subst (λ w. Act m c choice w (returning l ∷ [])) f (returns o l at r ex v.0 s v.1)
 
 -- the kind and the number of a choice that has them
-kind_is : (z : ℤ) (k : Kind) → kind_of z ≡ some k → z ≡ pos (kind_number k)
+kind_is : (z : ℤ) (k : Kind) → kind_of z ≡ Some k → z ≡ pos (kind_number k)
 unfolding kind_of kind_number
 kind_is (pos zero) k e = cc
-kind_is (pos (suc zero)) k e = let f : exec ≡ k = cc in subst (λ k. pos 1 ≡ pos (kind_number k)) f refl
-kind_is (pos (suc (suc zero))) k e = let f : arrive ≡ k = cc in subst (λ k. pos 2 ≡ pos (kind_number k)) f refl
-kind_is (pos (suc (suc (suc zero)))) k e = let f : bind ≡ k = cc in subst (λ k. pos 3 ≡ pos (kind_number k)) f refl
-kind_is (pos (suc (suc (suc (suc zero))))) k e = let f : start ≡ k = cc in subst (λ k. pos 4 ≡ pos (kind_number k)) f refl
-kind_is (pos (suc (suc (suc (suc (suc zero)))))) k e = let f : deliver ≡ k = cc in subst (λ k. pos 5 ≡ pos (kind_number k)) f refl
+kind_is (pos (suc zero)) k e = let f : Kind.Exec ≡ k = cc in subst (λ k. pos 1 ≡ pos (kind_number k)) f refl
+kind_is (pos (suc (suc zero))) k e = let f : Kind.Arrive ≡ k = cc in subst (λ k. pos 2 ≡ pos (kind_number k)) f refl
+kind_is (pos (suc (suc (suc zero)))) k e = let f : Kind.Bind ≡ k = cc in subst (λ k. pos 3 ≡ pos (kind_number k)) f refl
+kind_is (pos (suc (suc (suc (suc zero))))) k e = let f : Kind.Start ≡ k = cc in subst (λ k. pos 4 ≡ pos (kind_number k)) f refl
+kind_is (pos (suc (suc (suc (suc (suc zero)))))) k e = let f : Kind.Deliver ≡ k = cc in subst (λ k. pos 5 ≡ pos (kind_number k)) f refl
 kind_is (pos (suc (suc (suc (suc (suc (suc n))))))) k e = cc
 kind_is (negsuc n) k e = cc
 
 -- a number that was found is the number that was asked
-pub up_to_is : (n : ℕ) (z : ℤ) (i : ℕ) → up_to n z ≡ some i → z ≡ pos i
+pub up_to_is : (n : ℕ) (z : ℤ) (i : ℕ) → up_to n z ≡ Some i → z ≡ pos i
 up_to_is n z i e = let (h, s) = up_to_number n z i e in counted_is z i h.counts s
 
 module _ (m : Model) (c : Cells) (choice : Choice) where
   -- exec at an object in use
-  exec_act : (o : ℕ) → choice ≡ choose exec o → 1 ≤ o → o ≤ in_use c exec → (ws : List Write) → Exec.exec m c o ≡ moved ws
+  exec_act : (o : ℕ) → choice ≡ choose Kind.Exec o → 1 ≤ o → o ≤ in_use c Kind.Exec → (ws : List Write) → Exec.exec m c o ≡ moved ws
       → Act m c choice ws (executing m c (written c ws) o)
   unfolding executing in_use
   exec_act o is low high ws e =
@@ -169,30 +170,30 @@ module _ (m : Model) (c : Cells) (choice : Choice) where
   ruled_act : (k : Kind) (n : ℕ) → choice ≡ choose k n → 1 ≤ n → n ≤ in_use c k → (ws : List Write) → ruled m c k n ≡ moved ws
       → Act m c choice ws (happening m c (written c ws) k n)
   unfolding ruled happening in_use Messages.arrive Messages.bind Messages.start Messages.start_in Messages.deliver
-  ruled_act exec n is low high ws e = exec_act n is low high ws e
-  ruled_act arrive n is low high ws e =
+  ruled_act Kind.Exec n is low high ws e = exec_act n is low high ws e
+  ruled_act Kind.Arrive n is low high ws e =
       let t = must_moved (in_stage c n invoked) not_invoked _ ws e in
       let f : staged c n queued ≡ ws = cc t.1 in
       subst (λ w. Act m c choice w (arriving n ∷ [])) f (arrives n (record { chosen = is; low = low; high = high }) t.0)
-  ruled_act bind n is low high ws e =
+  ruled_act Kind.Bind n is low high ws e =
       let t = must_moved (in_stage c n queued) not_queued _ ws e in
       go (body_of m c n) refl t.0 t.1
     where
       go : (b : Option Method) → body_of m c n ≡ b → in_stage c n queued ≡ true
-          → (elim (body_of m c n) as (λ t. Next) [ none ↦ refused no_such_method | some b ↦ moved (staged c n bound) ]) ≡ moved ws
-          → Act m c choice ws (happening m c (written c ws) bind n)
-      go none h a e = absurd (refused_moved (rw h at e))
-      go (some b) h a e =
+          → (elim (body_of m c n) as (λ t. Next) [ None ↦ refused no_such_method | Some b ↦ moved (staged c n bound) ]) ≡ moved ws
+          → Act m c choice ws (happening m c (written c ws) Kind.Bind n)
+      go None h a e = absurd (refused_moved (rw h at e))
+      go (Some b) h a e =
           let f : staged c n bound ≡ ws = cc (rw h at e) in
           subst (λ w. Act m c choice w (binding n ∷ [])) f (binds n (record { chosen = is; low = low; high = high }) a)
-  ruled_act start n is low high ws e =
+  ruled_act Kind.Start n is low high ws e =
       let t = must_moved (in_stage c n bound) not_bound _ ws e in
       let u = must_moved _ object_busy _ ws t.1 in
       let v = working_moved _ _ ws u.1 in
       let w = must_moved _ not_ready _ ws v.2 in
       let f : Messages.started c (nat (of_call c n callee)) n ≡ ws = cc w.1 in
       subst (λ w. Act m c choice w []) f (starts n (record { chosen = is; low = low; high = high }) t.0)
-  ruled_act deliver n is low high ws e =
+  ruled_act Kind.Deliver n is low high ws e =
       let t = must_moved (in_stage c n answered) not_answered _ ws e in
       let f : staged c n replied ≡ ws = cc t.1 in
       subst (λ w. Act m c choice w (delivering n ∷ [])) f (delivers n (record { chosen = is; low = low; high = high }) t.0)

@@ -1,4 +1,5 @@
 -- Demand 3 holds after every list of choices. Assumes nothing; that the fresh cells are a configuration and that a step keeps one are parameters.
+use Rattle.std.specs.Prelude.{Some}
 use Prim.Native.Nat.{ℕ, ◌≤◌}
 use mathlib.Core.Bool.{true, false}
 use mathlib.Core.List.{List, [], ◌∷◌, ◌++◌, map}
@@ -8,7 +9,6 @@ use native.Mathlib.Omega.{arith}
 use borrow.Author.Tests.{ne_eqb}
 use lib.IntN.{pos}
 use lib.ListN.{length}
-use Rattle.whole.specs.declared.Worked.TheVariants.{Value}
 use Rattle.whole.specs.Whole.{eq_z}
 use Rattle.layout.specs.Layout.{Cells, all_cells, of_call, caller, callee, value}
 use Rattle.layout.specs.Stages.{rows_in_use, objects_in_use, label_of, stage_of, replied}
@@ -129,7 +129,7 @@ module _ (m : Model) (accepted : AcceptedModel m) (fresh_is : is_configuration m
           es = n.es;
           performs = performs_of m s n.o n.k n.at _ n.run n.reads;
           caller = e.caller_same ∙ n.row.caller_is;
-          callee = n.works ∙ ap Value (sym (e.callee_same ∙ n.row.callee_is));
+          callee = n.works ∙ ap Some (sym (e.callee_same ∙ n.row.callee_is));
           method = e.method_same ∙ n.row.method_is;
           args = e.args_same ∙ n.row.args_is;
         }
@@ -173,7 +173,7 @@ module _ (m : Model) (accepted : AcceptedModel m) (fresh_is : is_configuration m
         callee = r.o;
         e = r.e;
         returns = performs_of m back.0 r.o l r.at _ r.run r.reads;
-        same = r.works ∙ ap Value (sym (n.same ∙ value_at_end back.0 l back.1));
+        same = r.works ∙ ap Some (sym (n.same ∙ value_at_end back.0 l back.1));
       }
 
   -- call 1 of the fresh cells is the same call at the end

@@ -1,4 +1,5 @@
 -- What a step that issues, spawns, returns or takes has done: who performed which line, and what stands in the cells after it. Assumes nothing.
+use Rattle.std.specs.Prelude.{Some}
 use Prim.Native.Nat.{ℕ}
 use mathlib.Core.Bool.{true}
 use mathlib.Core.List.{List, [], ◌∷◌, ◌++◌, append_assoc}
@@ -7,7 +8,6 @@ use mathlib.Core.Path.{◌≡◌, refl, sym, ap, subst, ◌∙◌}
 use native.Mathlib.Omega.{arith}
 use lib.IntN.{ℤ, pos}
 use lib.ListN.{length}
-use Rattle.whole.specs.declared.Worked.TheVariants.{Value}
 use Rattle.layout.specs.Layout.{Cells, Write, written, of_call, to_call, to_object, running_label, value}
 use Rattle.layout.specs.Stages.{stage_of, object_of, objects_in_use, staged, invoked, queued, bound, running, replied, taken}
 use Rattle.layout.proofs.Laws.{length_written}
@@ -48,7 +48,7 @@ module _ (m : Model) (c : Cells) (choice : Choice) (d : Cells) where
     pub es : List Expression
     pub to : ℕ
     pub reads : at.statement ≡ Code.call x e j es
-    pub works : value_of (here c o k) e ≡ Value (pos to)
+    pub works : value_of (here c o k) e ≡ Some (pos to)
     pub label : l ≡ next_row c
     pub row : NewCall d l invoked o to j (length es)
 
@@ -64,7 +64,7 @@ module _ (m : Model) (c : Cells) (choice : Choice) (d : Cells) where
     pub run : Running m c choice o l at
     pub e : Expression
     pub reads : at.statement ≡ Code.return e
-    pub works : value_of (here c o l) e ≡ Value (of_call d l value)
+    pub works : value_of (here c o l) e ≡ Some (of_call d l value)
 
   -- a `get`: the line, whose reply it is, and what Y holds then
   pub record TakenNow (l : ℕ) : Type 0 where
@@ -167,7 +167,7 @@ module _ (m : Model) (accepted : AcceptedModel m) (c : Cells) (is : is_configura
         es = es;
         to = to;
         reads = s;
-        works = v ∙ ap Value number;
+        works = v ∙ ap Some number;
         label = label;
         row =
             subst (λ i. NewCall (written c (q ++ t)) i invoked o to j (length es)) (sym label)
@@ -197,7 +197,7 @@ module _ (m : Model) (accepted : AcceptedModel m) (c : Cells) (is : is_configura
         run = r;
         e = ex;
         reads = s;
-        works = v ∙ ap Value (sym (value_returned o l at (running_issued m accepted c is choice o l at r) z (stage_returned m c o l at)));
+        works = v ∙ ap Some (sym (value_returned o l at (running_issued m accepted c is choice o l at r) z (stage_returned m c o l at)));
       }) h
   what_happened (arrives l w s) e h = of_one m c choice (written c (staged c l queued)) e (arriving l) tt h
   what_happened (binds l w s) e h = of_one m c choice (written c (staged c l bound)) e (binding l) tt h

@@ -17,10 +17,9 @@ use Rattle.terms.specs.declared.Variable.TheVariants.{Attribute, Local}
 use Rattle.terms.specs.Values.{held}
 use Rattle.model.specs.Model.{Model}
 use Rattle.cells.specs.Standing.{Standing}
-use Rattle.layout.proofs.Writes.{Fields}
+use Rattle.layout.proofs.Writes.{Fields, put_same, written_append}
 use Rattle.layout.proofs.NewRows.{object_values, call_values, wrote_new_object, wrote_new_call}
 use Rattle.layout.proofs.Rows.{Rows, unwritten, valued, counts_objects, counts_calls, wrote_call, wrote_object}
-use Rattle.layout.proofs.Writes.{put_same, written_append}
 use Rattle.rules.specs.Exec.{here, stored, next_object, next_row, object_left, row_left, with_object, with_call, onward}
 use Rattle.layout.proofs.Sparing.{last_in_row, other_in_row}
 use Rattle.promises.proofs.Spared.{scratch, own_field}

@@ -21,7 +21,7 @@ use Rattle.layout.proofs.Writes.{written_append}
 use Rattle.rules.specs.declared.Choice.{Choice}
 use Rattle.rules.specs.Events.{Event, issuing, spawning, arriving, binding, returning, delivering, taking}
 use Rattle.rules.specs.Exec.{stored, next_object, next_row, with_object, with_call, onward, suspended, freed, stage_returned}
-use Rattle.rules.specs.Kinds.{Kind}
+use Rattle.rules.specs.declared.Kind.{Kind}
 use Rattle.rules.specs.Messages.{started}
 use Rattle.rules.proofs.Messaging.{label_row}
 use Rattle.layout.proofs.Sparing.{last_in_row}

@@ -1,9 +1,9 @@
 -- Whom the events are about: a `call` and a `new` of a class with run 1 are about the next label, and a `get` about the label whose reply it takes.
 -- Assumes nothing.
+use Rattle.std.specs.Prelude.{Option, None, Some}
 use Prim.Native.Nat.{ℕ, ◌+◌, ◌≤◌}
 use mathlib.Core.Bool.{Bool, true, false}
 use mathlib.Core.List.{List, [], ◌∷◌, ◌++◌, append_assoc}
-use mathlib.Core.Option.{Option, none, some}
 use mathlib.Core.Path.{◌≡◌, refl, sym, ap, subst, ◌∙◌}
 use native.Mathlib.Omega.{arith}
 use borrow.Author.Tests.{ne_eqb}
@@ -27,8 +27,7 @@ use Rattle.model.specs.Accepted.{AcceptedModel}
 use Rattle.model.specs.Model.{Model}
 use Rattle.cells.specs.Configuration.{is_configuration}
 use Rattle.cells.specs.Standing.{Standing}
-use Rattle.whole.proofs.Tested.{no_some}
-use Rattle.whole.proofs.Tested.{equals}
+use Rattle.whole.proofs.Tested.{no_some, equals}
 use Rattle.cells.proofs.Configured.{configured}
 use Rattle.layout.proofs.Writes.{written_append}
 use Rattle.rules.specs.declared.Choice.{Choice}
@@ -56,11 +55,11 @@ pub record Replied (c : Cells) (o : ℕ) (z : ℤ) (from : ℕ) : Type 0 where
   pub caller_is : of_call c from caller ≡ pos o
 
 -- what a reply that was found says
-pub replied_for : (c : Cells) (o : ℕ) (z : ℤ) (from : ℕ) → reply_for c o z ≡ some from → Replied c o z from
+pub replied_for : (c : Cells) (o : ℕ) (z : ℤ) (from : ℕ) → reply_for c o z ≡ Some from → Replied c o z from
 unfolding reply_for label_of is_reply in_stage only_if
 replied_for c o z from e = by_label (label_of c z) refl
   where
-    by_reply : (l : ℕ) → label_of c z ≡ some l → (b : Bool) → is_reply c o l ≡ b → reply_for c o z ≡ some from → Replied c o z from
+    by_reply : (l : ℕ) → label_of c z ≡ Some l → (b : Bool) → is_reply c o l ≡ b → reply_for c o z ≡ Some from → Replied c o z from
     by_reply l h true r e =
         let same : l ≡ from = cc (rw (h, reply_for, r) at e) in
         let w = up_to_some (rows_in_use c) z l h in
@@ -74,8 +73,8 @@ replied_for c o z from e = by_label (label_of c z) refl
     by_reply l h false r e = absurd (no_some (rw (h, reply_for, r) at e))
 
     by_label : (f : Option ℕ) → label_of c z ≡ f → Replied c o z from
-    by_label none h = absurd (no_some (rw (h, reply_for) at e))
-    by_label (some l) h = by_reply l h (is_reply c o l) refl e
+    by_label None h = absurd (no_some (rw (h, reply_for) at e))
+    by_label (Some l) h = by_reply l h (is_reply c o l) refl e
 
 module _ (m : Model) (accepted : AcceptedModel m) (c : Cells) (is : is_configuration m c ≡ true) (choice : Choice) (o l : ℕ) (at : Standing)
     (r : Running m c choice o l at) where
@@ -85,7 +84,7 @@ module _ (m : Model) (accepted : AcceptedModel m) (c : Cells) (is : is_configura
 
   -- it stands where it was found
   stands_at : standing running_call ≡ at
-  stands_at = let e : some (standing running_call) ≡ some at = sym (stands_there m c o l running_call) ∙ r.stands in cc
+  stands_at = let e : Some (standing running_call) ≡ Some at = sym (stands_there m c o l running_call) ∙ r.stands in cc
 
   -- how many variables there are at its line
   abbrev limits : Limits
@@ -150,7 +149,7 @@ module _ (m : Model) (accepted : AcceptedModel m) (c : Cells) (is : is_configura
       ∙ ap nat (stores_it (written c q) (length_written c q) x (fits x code.0) (pos (next_row c)))
 
   -- `get`: the label is the reply's, the line goes on, so that it is taken, and Y gets its value
-  pub take_label : (x y : Variable) (from : ℕ) → reply_for c o (held (here c o l) x) ≡ some from → (d : Cells)
+  pub take_label : (x y : Variable) (from : ℕ) → reply_for c o (held (here c o l) x) ≡ Some from → (d : Cells)
       → d ≡ written c (staged c from taken ++ (stored c o l y (of_call c from value) ++ onward m c o l at)) → Events.performing m c d o l (get x y) ≡ taking from ∷ []
   unfolding Events.performing eq_z nat
   take_label x y from h d e =

@@ -10,7 +10,8 @@ use Rattle.layout.specs.Stages.{stage_of}
 use Rattle.model.specs.Model.{Model}
 use Rattle.model.proofs.Session.{session_texts, session}
 use Rattle.rules.specs.declared.Choice.{Choice}
-use Rattle.rules.specs.Kinds.{exec, arrive, bind, start, deliver, choose}
+use Rattle.rules.specs.declared.Kind.TheVariants as Kind
+use Rattle.rules.specs.Kinds.{choose}
 use Rattle.rules.proofs.Scene.{model_of, scenes}
 use Rattle.promises.specs.Histories.{cells_at, history, about}
 use Rattle.promises.specs.Lives.{issued_life, spawned_life}
@@ -24,8 +25,8 @@ session_model = model_of session
 -- and its choices, of which three are refused
 unfoldable pub session_steps : List Choice
 session_steps =
-    choose exec 1 ∷ choose exec 1 ∷ choose exec 1 ∷ choose exec 1 ∷ choose start 1 ∷ choose arrive 2 ∷ choose bind 2 ∷ choose start 2
-    ∷ choose exec 2 ∷ choose exec 2 ∷ choose start 1 ∷ choose deliver 2 ∷ choose start 1 ∷ choose exec 1 ∷ choose exec 1 ∷ choose exec 1 ∷ []
+    choose Kind.Exec 1 ∷ choose Kind.Exec 1 ∷ choose Kind.Exec 1 ∷ choose Kind.Exec 1 ∷ choose Kind.Start 1 ∷ choose Kind.Arrive 2 ∷ choose Kind.Bind 2 ∷ choose Kind.Start 2
+    ∷ choose Kind.Exec 2 ∷ choose Kind.Exec 2 ∷ choose Kind.Start 1 ∷ choose Kind.Deliver 2 ∷ choose Kind.Start 1 ∷ choose Kind.Exec 1 ∷ choose Kind.Exec 1 ∷ choose Kind.Exec 1 ∷ []
 
 -- the stage of call 1 after so many of the choices
 abbrev pub call_1 : ℕ → ℤ

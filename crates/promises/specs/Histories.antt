@@ -1,7 +1,6 @@
 -- The history of a run: what has happened to the calls since the start, read off choices, lines and cells, and never off a stage. Assumes
 -- nothing.
-use Rattle.std.specs.Prelude.{ℕ, true, false, List, [], ◌∷◌, ◌++◌, ◌⊎◌, ◌≡◌, eqb, pos}
-use Rattle.std.proofs.Math.Option.{some}
+use Rattle.std.specs.Prelude.{ℕ, true, false, List, [], ◌∷◌, ◌++◌, ◌⊎◌, ◌≡◌, eqb, pos, Some}
 use Rattle.layout.specs.Layout.{Cells, of_object, running_label}
 use Rattle.code.specs.Statements.{Code}
 use Rattle.model.specs.Model.{Model}
@@ -9,7 +8,8 @@ use Rattle.cells.specs.Fresh.{fresh}
 use Rattle.cells.specs.Standing.{Standing, standing_of}
 use Rattle.rules.specs.declared.Choice.{Choice}
 use Rattle.rules.specs.Events.{Event, issuing, spawning, arriving, binding, returning, delivering, taking, events_of, first_events}
-use Rattle.rules.specs.Kinds.{exec, choose}
+use Rattle.rules.specs.declared.Kind.TheVariants as Kind
+use Rattle.rules.specs.Kinds.{choose}
 use Rattle.rules.specs.Next.{cells_after}
 use Rattle.rules.specs.Step.{next}
 use Rattle.engine.specs.Run.{run_cells}
@@ -69,8 +69,8 @@ module _ (m : Model) {choices : List Choice} (s : StepOf choices) where
 
   -- in it an object performs a line in its running call
   pub record Performs (o l : ℕ) (line : Code) : Type 0 where
-    pub chosen : s.choice ≡ choose exec o
+    pub chosen : s.choice ≡ choose Kind.Exec o
     pub runs : of_object cells_before o running_label ≡ pos l
     pub at : Standing
-    pub stands : standing_of m cells_before l ≡ some at
+    pub stands : standing_of m cells_before l ≡ Some at
     pub reads : at.statement ≡ line

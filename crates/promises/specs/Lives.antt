@@ -1,7 +1,6 @@
 -- Demand 3: each label has one life and is one call for good, its stage says where it is in that life, and a reply brings the very value that was
 -- returned. Believed: this page, the history of a run, and the events of a step (rules, Events). Assumes nothing.
-use Rattle.std.specs.Prelude.{ℕ, ◌≤◌, List, [], ◌∷◌, map, ◌⊎◌, ◌≡◌, pos, length, take}
-use Rattle.whole.specs.declared.Worked.TheVariants.{Value}
+use Rattle.std.specs.Prelude.{ℕ, ◌≤◌, List, [], ◌∷◌, map, ◌⊎◌, ◌≡◌, pos, length, take, Some}
 use Rattle.whole.specs.Whole.{nat}
 use Rattle.whole.specs.Lists.{total_of}
 use Rattle.layout.specs.Layout as Layout
@@ -85,7 +84,7 @@ module _ (m : Model) {choices : List Choice} (s : StepOf choices) where
     pub es : List Expression
     pub performs : Performs m s object label (Code.call x e j es)
     pub caller : of_call d l Layout.caller ≡ pos object
-    pub callee : value_of (here (cells_before m s) object label) e ≡ Value (of_call d l Layout.callee)
+    pub callee : value_of (here (cells_before m s) object label) e ≡ Some (of_call d l Layout.callee)
     pub method : of_call d l Layout.method ≡ pos j
     pub args : of_call d l Layout.args ≡ pos (length es)
 
@@ -108,7 +107,7 @@ module _ (m : Model) {choices : List Choice} (s : StepOf choices) where
     pub callee : ℕ
     pub e : Expression
     pub returns : Performs m return callee l (Code.return e)
-    pub same : value_of (here (cells_before m return) callee l) e ≡ Value (held (here (cells_next m s) object label) y)
+    pub same : value_of (here (cells_before m return) callee l) e ≡ Some (held (here (cells_next m s) object label) y)
 
 -- a caller-less call: "caller 0, method 0", and its callee
 pub record CallerLess (d : Cells) (l o : ℕ) : Type 0 where

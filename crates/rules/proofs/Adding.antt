@@ -1,13 +1,13 @@
 -- Rows added to a configuration: the next object, the next label, or both. The running call is as it was. Assumes nothing.
+use Rattle.std.specs.Prelude.{Some, slice_get}
 use Prim.Native.Nat.{ℕ, ◌+◌, ◌≤◌, ◌<◌}
 use mathlib.Core.Bool.{true}
 use mathlib.Core.List.{List, [], ◌++◌}
-use mathlib.Core.Option.{some}
 use mathlib.Core.Path.{◌≡◌, refl, sym, ap, subst, ◌∙◌}
 use mathlib.Core.Logic.{◌≢◌}
 use native.Mathlib.Omega.{arith}
 use lib.IntN.{ℤ, pos}
-use lib.ListN.{length, get_elem?}
+use lib.ListN.{length}
 use Rattle.whole.specs.Whole.{nat}
 use Rattle.layout.specs.Layout.{Cells, Write, written, object_rows, call_rows, read, objects, calls, of_object, of_call, class, running_label, stage, callee}
 use Rattle.layout.specs.Stages.{invoked, running, objects_in_use, rows_in_use}
@@ -71,7 +71,7 @@ module _ (m : Model) (c : Cells) (o l : ℕ) (p : Performing m c o l) where
   names_unused o' a b l' past e = let h = (p.conf.object o' a b).label.most in let z = nat_of e in omega arith
 
   -- the next object, idle
-  module _ (k : ℕ) (zs : List ℤ) (kind : Class) (there : get_elem? m k ≡ some kind) (few : length zs ≤ kind.attrs) (left : n < object_rows) where
+  module _ (k : ℕ) (zs : List ℤ) (kind : Class) (there : slice_get m k ≡ Some kind) (few : length zs ≤ kind.attrs) (left : n < object_rows) where
     object_rows_lem : Rows c (written c (with_object c k 0 zs)) (pos (n + 1)) (pos r) l (n + 1) (of_call c l) (valued (object_values k 0 zs))
     unfolding with_object next_object written
     object_rows_lem =
@@ -128,7 +128,7 @@ module _ (m : Model) (c : Cells) (o l : ℕ) (p : Performing m c o l) where
   old_call e = let a = p.call in omega arith
 
   -- the next object, and the next label running there
-  module _ (accepted : AcceptedModel m) (k : ℕ) (zs : List ℤ) (kind : Class) (there : get_elem? m k ≡ some kind) (run : runs kind ≡ true)
+  module _ (accepted : AcceptedModel m) (k : ℕ) (zs : List ℤ) (kind : Class) (there : slice_get m k ≡ Some kind) (run : runs kind ≡ true)
       (few : length zs ≤ kind.attrs) (left : n < object_rows) (left-calls : r < call_rows) where
     both : List Write
     both = with_object c k (r + 1) zs ++ with_call c running 0 (n + 1) 0 []

@@ -9,7 +9,8 @@ use Rattle.model.specs.Model.{Model}
 use Rattle.model.proofs.Session.{session_texts, session, session_with}
 use Rattle.cells.specs.Fresh.{fresh}
 use Rattle.rules.specs.declared.Choice.{Choice}
-use Rattle.rules.specs.Kinds.{exec, arrive, bind, start, deliver, choose}
+use Rattle.rules.specs.declared.Kind.TheVariants as Kind
+use Rattle.rules.specs.Kinds.{choose}
 use Rattle.rules.specs.Next.{answer_of, cells_after}
 use Rattle.rules.specs.Step.{next}
 use Rattle.rules.proofs.Open.{rules_open}
@@ -24,8 +25,8 @@ follow m shown c (k ∷ ks) =
 
 session_choices : List Choice
 session_choices =
-    choose exec 1 ∷ choose exec 1 ∷ choose exec 1 ∷ choose exec 1 ∷ choose start 1 ∷ choose arrive 2 ∷ choose bind 2 ∷ choose start 2
-    ∷ choose exec 2 ∷ choose exec 2 ∷ choose start 1 ∷ choose deliver 2 ∷ choose start 1 ∷ choose exec 1 ∷ choose exec 1 ∷ choose exec 1 ∷ []
+    choose Kind.Exec 1 ∷ choose Kind.Exec 1 ∷ choose Kind.Exec 1 ∷ choose Kind.Exec 1 ∷ choose Kind.Start 1 ∷ choose Kind.Arrive 2 ∷ choose Kind.Bind 2 ∷ choose Kind.Start 2
+    ∷ choose Kind.Exec 2 ∷ choose Kind.Exec 2 ∷ choose Kind.Start 1 ∷ choose Kind.Deliver 2 ∷ choose Kind.Start 1 ∷ choose Kind.Exec 1 ∷ choose Kind.Exec 1 ∷ choose Kind.Exec 1 ∷ []
 
 -- objects, calls, a1 of object 1, and the stages and values of both calls
 shown : Cells → List ℤ
@@ -40,11 +41,11 @@ table =
     -- `if`, `else` and `fi` are a step each: false goes past the else, and the else past the fi
     ∷ (follow
     (model_of (session_with (bytes "lines=6\ncode=if a0\ncode=set a1 5\ncode=else\ncode=set a0 1\ncode=fi\ncode=return a0\n")))
-    shown fresh (choose exec 1 ∷ choose exec 1 ∷ choose exec 1 ∷ choose exec 1 ∷ choose exec 1 ∷ []) is
+    shown fresh (choose Kind.Exec 1 ∷ choose Kind.Exec 1 ∷ choose Kind.Exec 1 ∷ choose Kind.Exec 1 ∷ choose Kind.Exec 1 ∷ []) is
     map pos (0 ∷ 0 ∷ 0 ∷ 0 ∷ 27 ∷ 1 ∷ 1 ∷ 0 ∷ 7 ∷ 1 ∷ 0 ∷ 0 ∷ []))
     -- a caller-less call: never delivered; a label not in use and a kind that is none
     ∷ (follow (model_of (session_with (bytes "lines=1\ncode=return 9\n")))
-    shown fresh (choose exec 1 ∷ choose deliver 1 ∷ choose start 1 ∷ choose arrive 2 ∷ choose exec 2 ∷ []) is
+    shown fresh (choose Kind.Exec 1 ∷ choose Kind.Deliver 1 ∷ choose Kind.Start 1 ∷ choose Kind.Arrive 2 ∷ choose Kind.Exec 2 ∷ []) is
     map pos (0 ∷ 26 ∷ 23 ∷ 12 ∷ 12 ∷ 1 ∷ 1 ∷ 0 ∷ 7 ∷ 9 ∷ 0 ∷ 0 ∷ []))
     ∷ []
 

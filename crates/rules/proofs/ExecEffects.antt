@@ -1,8 +1,8 @@
 -- What an accepted exec does to the calls, form by form: the running call's line or stage is another. Assumes nothing.
+use Rattle.std.specs.Prelude.{Option, None, Some}
 use Prim.Native.Nat.{ℕ, ◌+◌, ◌≤◌, ◌<◌}
 use mathlib.Core.Bool.{Bool, true, false, false≢true}
 use mathlib.Core.List.{List, [], ◌++◌, map}
-use mathlib.Core.Option.{Option, none, some}
 use mathlib.Core.Path.{◌≡◌, refl, sym, ap, subst, ◌∙◌}
 use mathlib.Core.Logic.{◌≢◌}
 use native.Mathlib.Omega.{arith}
@@ -11,7 +11,7 @@ use lib.ListN.{length, get_or, length-map}
 use Rattle.whole.specs.Refusals.{object_rows_full, call_rows_full, callee_no_object, reply_not_in}
 use Rattle.whole.specs.Plain.{whenever}
 use Rattle.whole.specs.Whole.{is_true, nat}
-use Rattle.layout.specs.Layout.{Cells, Write, written, call_rows, of_call, to_object, to_call, running_label, stage, callee, line, cleared, value}
+use Rattle.layout.specs.Layout.{Cells, Write, written, call_rows, of_call, to_object, to_call, running_label, stage, line, cleared, value}
 use Rattle.layout.specs.Stages.{invoked, bound, running, replied, taken, rows_in_use, object_of, reply_for, staged}
 use Rattle.terms.specs.declared.Variable.{Variable}
 use Rattle.terms.specs.Values.{held, value_of, guard_of}
@@ -29,7 +29,7 @@ use Rattle.cells.specs.Standing.{shapes_of}
 use Rattle.whole.proofs.Tested.{nat_of}
 use Rattle.cells.proofs.FromTest.{stage_is}
 use Rattle.rules.specs.Exec.{stored, next_row, next_object, object_left, row_left, class_runs, with_object, with_call, here, worked_out, onward, jumped, assigned, made, created, issued, took_reply, freed, crossed, suspended, awaited, branched, stage_returned, returned, performed}
-use Rattle.rules.specs.Kinds.{exec}
+use Rattle.rules.specs.declared.Kind.TheVariants as Kind
 use Rattle.rules.specs.Next.{refused, moved, must}
 use Rattle.rules.proofs.Effects.{Moves}
 use Rattle.rules.proofs.Executing.{item_inside, item_made}
@@ -53,11 +53,11 @@ turns Shape.Await = false
 turns Shape.Plain = false
 
 -- it goes to another line
-jump_moves : (ls : List Shape) → through_all ls [] ≡ some [] → (i : ℕ) → i < length ls → (s : Shape) → get_or ls i Shape.Plain ≡ s → turns s ≡ true → goes_to ls i ≢ i
+jump_moves : (ls : List Shape) → through_all ls [] ≡ Some [] → (i : ℕ) → i < length ls → (s : Shape) → get_or ls i Shape.Plain ≡ s → turns s ≡ true → goes_to ls i ≢ i
 unfolding goes_to goes_from opening closing
 jump_moves ls closes i inside s e t f = go s e t (ap (λ s. goes_from s ls i) (sym e) ∙ f)
   where
-    over : (b : Block) → opening (get_or ls i Shape.Plain) ≡ some b → ahead ls i + 1 ≡ i → ⊥
+    over : (b : Block) → opening (get_or ls i Shape.Plain) ≡ Some b → ahead ls i + 1 ≡ i → ⊥
     over b e f = let h = (partner_ahead ls closes i inside b e).0 in omega arith
 
     go : (s : Shape) → get_or ls i Shape.Plain ≡ s → turns s ≡ true → goes_from s ls i ≡ i → ⊥
@@ -80,7 +80,7 @@ module _ (m : Model) (accepted : AcceptedModel m) (c : Cells) (o l : ℕ) (p : P
 
   -- the running call moves
   moves : (ws : List Write) → (of_call (written c ws) l stage ≡ of_call c l stage → of_call (written c ws) l line ≡ of_call c l line → ⊥) → SparesOthers ws
-      → Moves c (written c ws) exec o l
+      → Moves c (written c ws) Kind.Exec o l
   moves ws changes spare =
       record {
         low = p.call.0;
@@ -92,16 +92,16 @@ module _ (m : Model) (accepted : AcceptedModel m) (c : Cells) (o l : ℕ) (p : P
       }
 
   -- by its line, written last
-  by_line : (us : List Write) (j : ℕ) → j ≢ nat (of_call c l line) → SparesOthers us → Moves c (written c (us ++ to_call c l line (pos j))) exec o l
+  by_line : (us : List Write) (j : ℕ) → j ≢ nat (of_call c l line) → SparesOthers us → Moves c (written c (us ++ to_call c l line (pos j))) Kind.Exec o l
   by_line us j n spare =
       moves _ (λ f g. n (sym (nat_of (last_in_row c p.conf.length l p.call.0 few c us line (pos j) (omega arith))) ∙ ap nat g))
       (λ l' h k w. spares_both us _ l' (spare l' h k w) (spares_call l' c l line (pos j) k))
 
-  by_onward : (us : List Write) → SparesOthers us → Moves c (written c (us ++ onward m c o l (standing p))) exec o l
+  by_onward : (us : List Write) → SparesOthers us → Moves c (written c (us ++ onward m c o l (standing p))) Kind.Exec o l
   unfolding onward
   by_onward us spare = by_line us _ (λ e. omega arith) spare
 
-  by_jump : (s : Shape) → shape_of p.bound.stands.statement ≡ s → turns s ≡ true → Moves c (written c (jumped m c o l (standing p))) exec o l
+  by_jump : (s : Shape) → shape_of p.bound.stands.statement ≡ s → turns s ≡ true → Moves c (written c (jumped m c o l (standing p))) Kind.Exec o l
   unfolding jumped shapes_of
   by_jump s e t =
       let a = p.bound.stands in
@@ -112,7 +112,7 @@ module _ (m : Model) (accepted : AcceptedModel m) (c : Cells) (o l : ℕ) (p : P
       by_line [] _ (jump_moves ls blocks.close i inside s (item_made shape_of Shape.Plain a.body.code i a.statement a.inside ∙ e) t) (λ l' h k w. tt)
 
   -- by its stage
-  suspended_moves : Moves c (written c (suspended m c o l (standing p))) exec o l
+  suspended_moves : Moves c (written c (suspended m c o l (standing p))) Kind.Exec o l
   unfolding suspended staged freed
   suspended_moves =
       let first = staged c l bound in
@@ -128,7 +128,7 @@ module _ (m : Model) (accepted : AcceptedModel m) (c : Cells) (o l : ℕ) (p : P
       (λ l' h k w. spares_both (first ++ second) last l'
       (spares_both first second l' (spares_stage l' c l bound k) (spares_call l' c l cleared (pos 1) k)) (spares_object l' o running_label (pos 0)))
 
-  returned_moves : (z : ℤ) → Moves c (written c (to_call c l value z ++ staged c l (stage_returned m c o l (standing p)) ++ freed m c o l (standing p))) exec o l
+  returned_moves : (z : ℤ) → Moves c (written c (to_call c l value z ++ staged c l (stage_returned m c o l (standing p)) ++ freed m c o l (standing p))) Kind.Exec o l
   unfolding staged freed
   returned_moves z =
       let t = stage_returned m c o l (standing p) in
@@ -147,16 +147,16 @@ module _ (m : Model) (accepted : AcceptedModel m) (c : Cells) (o l : ℕ) (p : P
 
   -- what was moved was written
   module _ (ws : List Write) where
-    wrote : (vs : List Write) → moved vs ≡ moved ws → Moves c (written c vs) exec o l → Moves c (written c ws) exec o l
-    wrote vs e h = subst (λ ws. Moves c (written c ws) exec o l) (writes_are e) h
+    wrote : (vs : List Write) → moved vs ≡ moved ws → Moves c (written c vs) Kind.Exec o l → Moves c (written c ws) Kind.Exec o l
+    wrote vs e h = subst (λ ws. Moves c (written c ws) Kind.Exec o l) (writes_are e) h
 
     -- a first part that spares the others, a variable, and the next line
     by_stored : (us : List Write) (x : Variable) (z : ℤ) → moved (us ++ stored c o l x z ++ onward m c o l (standing p)) ≡ moved ws → SparesOthers us
-        → Moves c (written c ws) exec o l
+        → Moves c (written c ws) Kind.Exec o l
     by_stored us x z e spare =
         wrote _ e (by_onward (us ++ stored c o l x z) (λ l' h n w. spares_both us _ l' (spare l' h n w) (spares_stored l' c o l x z n)))
 
-    new_moves : (x : Variable) (k : ℕ) (zs : List ℤ) → created m c o l (standing p) x k zs ≡ moved ws → Moves c (written c ws) exec o l
+    new_moves : (x : Variable) (k : ℕ) (zs : List ℤ) → created m c o l (standing p) x k zs ≡ moved ws → Moves c (written c ws) Kind.Exec o l
     unfolding created made next_row
     new_moves x k zs e =
         let (left, f) = must_moved (object_left c) object_rows_full _ ws e in
@@ -172,54 +172,54 @@ module _ (m : Model) (accepted : AcceptedModel m) (c : Cells) (o l : ℕ) (p : P
             (spares_new_call l' c running 0 (next_object c) 0 [] (λ e. omega arith))
         go l' h false = spares_new_object l' c k 0 zs
 
-    call_moves : (x : Variable) (z : ℤ) (j : ℕ) (zs : List ℤ) → issued m c o l (standing p) x z j zs ≡ moved ws → Moves c (written c ws) exec o l
+    call_moves : (x : Variable) (z : ℤ) (j : ℕ) (zs : List ℤ) → issued m c o l (standing p) x z j zs ≡ moved ws → Moves c (written c ws) Kind.Exec o l
     unfolding issued next_row
     call_moves x z j zs e = go (object_of c z) e
       where
         go : (f : Option ℕ) → (elim f [
-          | none ↦ refused callee_no_object
-          | some to ↦ must (row_left c) call_rows_full (moved (with_call c invoked o to j zs ++ stored c o l x (pos (next_row c)) ++ onward m c o l (standing p)))
-        ]) ≡ moved ws → Moves c (written c ws) exec o l
-        go none e = absurd (refused_moved e)
-        go (some to) e =
+          | None ↦ refused callee_no_object
+          | Some to ↦ must (row_left c) call_rows_full (moved (with_call c invoked o to j zs ++ stored c o l x (pos (next_row c)) ++ onward m c o l (standing p)))
+        ]) ≡ moved ws → Moves c (written c ws) Kind.Exec o l
+        go None e = absurd (refused_moved e)
+        go (Some to) e =
             let (left, g) = must_moved (row_left c) call_rows_full _ ws e in
             by_stored (with_call c invoked o to j zs) x _ g (λ l' h n w. spares_new_call l' c invoked o to j zs (λ e. omega arith))
 
-    get_moves : (x y : Variable) → took_reply m c o l (standing p) x y ≡ moved ws → Moves c (written c ws) exec o l
+    get_moves : (x y : Variable) → took_reply m c o l (standing p) x y ≡ moved ws → Moves c (written c ws) Kind.Exec o l
     unfolding took_reply
     get_moves x y e = go (reply_for c o (held (here c o l) x)) refl e
       where
         go : (f : Option ℕ) → reply_for c o (held (here c o l) x) ≡ f → (elim f [
-          | none ↦ refused reply_not_in
-          | some from ↦ moved (staged c from taken ++ stored c o l y (of_call c from value) ++ onward m c o l (standing p))
-        ]) ≡ moved ws → Moves c (written c ws) exec o l
-        go none f e = absurd (refused_moved e)
-        go (some from) f e =
+          | None ↦ refused reply_not_in
+          | Some from ↦ moved (staged c from taken ++ stored c o l y (of_call c from value) ++ onward m c o l (standing p))
+        ]) ≡ moved ws → Moves c (written c ws) Kind.Exec o l
+        go None f e = absurd (refused_moved e)
+        go (Some from) f e =
             let six = nat_of (stage_is m c from replied (reply_is c o _ from f).2) in
             by_stored (staged c from taken) y _ e (λ l' h n w. spares_stage l' c from taken (λ s. w (ap (λ l. nat (of_call c l stage)) s ∙ six)))
 
     branch_moves : (s : Shape) → shape_of p.bound.stands.statement ≡ s → turns s ≡ true → (z : ℤ) → branched m c o l (standing p) z ≡ moved ws
-        → Moves c (written c ws) exec o l
+        → Moves c (written c ws) Kind.Exec o l
     unfolding branched
     branch_moves s e t z f = go (is_true z) f
       where
         go : (b : Bool) → (elim b [ true ↦ moved (onward m c o l (standing p)) | false ↦ moved (jumped m c o l (standing p)) ]) ≡ moved ws
-            → Moves c (written c ws) exec o l
+            → Moves c (written c ws) Kind.Exec o l
         go true f = wrote _ f (by_onward [] (λ l' h n w. tt))
         go false f = wrote _ f (by_jump s e t)
 
-    await_moves : (z : ℤ) → awaited m c o l (standing p) z ≡ moved ws → Moves c (written c ws) exec o l
+    await_moves : (z : ℤ) → awaited m c o l (standing p) z ≡ moved ws → Moves c (written c ws) Kind.Exec o l
     unfolding awaited crossed
     await_moves z f = go (is_true z) f
       where
         go : (b : Bool) → (elim b [ true ↦ moved (crossed m c o l (standing p)) | false ↦ moved (suspended m c o l (standing p)) ]) ≡ moved ws
-            → Moves c (written c ws) exec o l
+            → Moves c (written c ws) Kind.Exec o l
         go true f = wrote _ f (by_onward (to_call c l cleared (pos 0)) (λ l' h n w. spares_call l' c l cleared (pos 0) n))
         go false f = wrote _ f suspended_moves
 
     -- a line performed, by its form
     pub performed_moves : (s : Code) → p.bound.stands.statement ≡ s → performed m c o l (standing p) (worked_out (here c o l) s) ≡ moved ws
-        → Moves c (written c ws) exec o l
+        → Moves c (written c ws) Kind.Exec o l
     unfolding performed worked_out map_statement shape_of assigned returned
     performed_moves skip e f = wrote _ f (by_onward [] (λ l' h n w. tt))
     performed_moves (set x a) e f =

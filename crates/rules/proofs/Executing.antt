@@ -1,18 +1,18 @@
 -- exec keeps a configuration, form by form. Assumes nothing.
+use Rattle.std.specs.Prelude.{Option, None, Some, slice_get}
 use Prim.Native.Nat.{ℕ, zero, suc, ◌+◌, ◌≤◌, ◌<◌}
 use mathlib.Core.Bool.{Bool, true, false, true≢false}
 use mathlib.Core.List.{List, [], ◌∷◌, ◌++◌, map}
-use mathlib.Core.Option.{Option, none, some}
 use mathlib.Core.Path.{◌≡◌, refl, sym, ap, subst, ◌∙◌}
 use mathlib.Core.Logic.{◌≢◌}
 use native.Mathlib.Omega.{arith}
 use borrow.Author.Tests.{ltb-true}
 use lib.IntN.{ℤ, pos}
-use lib.ListN.{length, get_or, get_elem?}
+use lib.ListN.{length, get_or}
 use Rattle.whole.specs.Plain.{whenever}
 use Rattle.whole.specs.Refusals.{object_rows_full, call_rows_full, callee_no_object, reply_not_in}
 use Rattle.whole.specs.Whole.{nat, is_true}
-use Rattle.layout.specs.Layout.{Cells, Write, written, most_attributes, most_locals, object_rows, call_rows, of_call, class, line, cleared, value}
+use Rattle.layout.specs.Layout.{Cells, Write, written, most_attributes, most_locals, object_rows, call_rows, of_call, line, cleared, value}
 use Rattle.layout.specs.Stages.{invoked, running, taken, objects_in_use, rows_in_use, object_of, reply_for, staged}
 use Rattle.terms.specs.declared.Variable.{Variable}
 use Rattle.terms.specs.Values.{held}
@@ -22,7 +22,7 @@ use Rattle.code.specs.declared.Shape.TheVariants as Shape
 use Rattle.code.specs.Blocks.{shape_of, shape_number}
 use Rattle.code.specs.Partners.{goes_to}
 use Rattle.code.specs.Reader.{last_method}
-use Rattle.code.specs.Statements.{Code, call}
+use Rattle.code.specs.Statements.{Code}
 use Rattle.code.specs.Within.{CodeWithin}
 use Rattle.model.specs.Accepted.{AcceptedModel}
 use Rattle.model.specs.Bounds.{most_params}
@@ -45,12 +45,12 @@ use Rattle.rules.proofs.Replying.{reply_taken}
 use Rattle.rules.proofs.Performing.{Performing, standing, Still, line_goes, stored_goes, still, cleared_goes}
 
 -- an item lies within its list, and what is made of it stands there
-pub item_inside : {A : Type 0} (xs : List A) (i : ℕ) (x : A) → get_elem? xs i ≡ some x → i < length xs
+pub item_inside : {A : Type 0} (xs : List A) (i : ℕ) (x : A) → slice_get xs i ≡ Some x → i < length xs
 item_inside [] i x e = absurd (no_some e)
 item_inside (y ∷ xs) zero x e = omega arith
 item_inside (y ∷ xs) (suc i) x e = let h = item_inside xs i x e in omega arith
 
-pub item_made : {A B : Type 0} (f : A → B) (d : B) (xs : List A) (i : ℕ) (x : A) → get_elem? xs i ≡ some x → get_or (map f xs) i d ≡ f x
+pub item_made : {A B : Type 0} (f : A → B) (d : B) (xs : List A) (i : ℕ) (x : A) → slice_get xs i ≡ Some x → get_or (map f xs) i d ≡ f x
 item_made f d [] i x e = absurd (no_some e)
 item_made f d (y ∷ xs) zero x e = let s : y ≡ x = cc in ap f s
 item_made f d (y ∷ xs) (suc i) x e = item_made f d xs i x e
@@ -139,7 +139,7 @@ module _ (m : Model) (accepted : AcceptedModel m) (c : Cells) (o l : ℕ) (p : P
         wrote _ e (subst (Configured m) (sym (parts c us (stored c o l x z) (onward m c o l (standing p)))) (stores _ s plain x z v))
 
     -- "`new` makes the next object .. and stores its number in X. Where the class has run 1 it also issues the next label"
-    pub new_keeps : (x : Variable) (k : ℕ) (zs : List ℤ) (kind : Class) → get_elem? m k ≡ some kind → length zs ≤ kind.attrs
+    pub new_keeps : (x : Variable) (k : ℕ) (zs : List ℤ) (kind : Class) → slice_get m k ≡ Some kind → length zs ≤ kind.attrs
         → (shape_of st ≢ Shape.Return) × (shape_of st ≢ Shape.Await)
         → VariableWithin (record { attrs = p.bound.stands.class.attrs; locals = p.bound.stands.body.locals }) x
         → created m c o l (standing p) x k zs ≡ moved ws → Configured m (written c ws)
@@ -171,11 +171,11 @@ module _ (m : Model) (accepted : AcceptedModel m) (c : Cells) (o l : ℕ) (p : P
       where
         go : (f : Option ℕ) → object_of c z ≡ f
             → (elim f [
-              | none ↦ refused callee_no_object
-              | some to ↦ must (row_left c) call_rows_full (moved (with_call c invoked o to j zs ++ stored c o l x (pos (next_row c)) ++ onward m c o l (standing p)))
+              | None ↦ refused callee_no_object
+              | Some to ↦ must (row_left c) call_rows_full (moved (with_call c invoked o to j zs ++ stored c o l x (pos (next_row c)) ++ onward m c o l (standing p)))
             ]) ≡ moved ws → Configured m (written c ws)
-        go none f e = absurd (refused_moved e)
-        go (some to) f e =
+        go None f e = absurd (refused_moved e)
+        go (Some to) f e =
             let (n, s) = up_to_number (objects_in_use c) z to f in
             let (left, g) = must_moved (row_left c) call_rows_full _ ws e in
             wrote_first _ x _ g (call_added m c o l p to j zs (omega arith) (omega arith) known few (ltb-true (rows_in_use c) call_rows left)) plain v
@@ -189,11 +189,11 @@ module _ (m : Model) (accepted : AcceptedModel m) (c : Cells) (o l : ℕ) (p : P
       where
         go : (f : Option ℕ) → reply_for c o (held (here c o l) x) ≡ f
             → (elim f [
-              | none ↦ refused reply_not_in
-              | some from ↦ moved (staged c from taken ++ stored c o l y (of_call c from value) ++ onward m c o l (standing p))
+              | None ↦ refused reply_not_in
+              | Some from ↦ moved (staged c from taken ++ stored c o l y (of_call c from value) ++ onward m c o l (standing p))
             ]) ≡ moved ws → Configured m (written c ws)
-        go none f e = absurd (refused_moved e)
-        go (some from) f e = wrote_first _ y _ e (reply_taken m c o l p _ from f) plain v
+        go None f e = absurd (refused_moved e)
+        go (Some from) f e = wrote_first _ y _ e (reply_taken m c o l p _ from f) plain v
 
     -- a branch goes on or jumps
     pub branch_keeps : (z : ℤ) → (shape_of st ≢ Shape.Return) × (shape_of st ≢ Shape.Await)

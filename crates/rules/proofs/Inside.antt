@@ -1,16 +1,14 @@
 -- 28, "line past the method's end", is never given from a configuration. Assumes nothing.
+use Rattle.std.specs.Prelude.{Option, None, Some}
 use Prim.Native.Nat.{ℕ, ◌≤◌}
 use mathlib.Core.Bool.{Bool, true, false}
 use mathlib.Core.List.{List, [], ◌∷◌}
-use mathlib.Core.Option.{Option, none, some}
 use mathlib.Core.Path.{◌≡◌, refl, sym, subst, ◌∙◌}
 use mathlib.Core.Logic.{◌≢◌}
 use native.Mathlib.Omega.{arith}
 use lib.IntN.{ℤ}
-use Rattle.whole.specs.declared.Worked.{Worked}
-use Rattle.whole.specs.declared.Worked.TheVariants.{Value, OutOfRange}
+use Rattle.whole.specs.Whole.{Worked, is_true}
 use Rattle.whole.specs.Refusals.{not_in_use, object_idle, past_the_end}
-use Rattle.whole.specs.Whole.{is_true}
 use Rattle.layout.specs.Layout.{Cells, of_object, running_label}
 use Rattle.layout.specs.Stages.{objects_in_use, up_to, object_of, label_of, reply_for}
 use Rattle.terms.specs.Values.{held}
@@ -24,7 +22,9 @@ use Rattle.cells.proofs.Configured.{configured}
 use Rattle.rules.specs.declared.Choice.{Choice}
 use Rattle.rules.specs.Exec.{here, worked_out, assigned, created, issued, took_reply, awaited, branched, returned, performed}
 use Rattle.rules.specs.Exec as Exec
-use Rattle.rules.specs.Kinds.{Kind, exec, arrive, bind, start, deliver, kind_of, in_use}
+use Rattle.rules.specs.declared.Kind.{Kind}
+use Rattle.rules.specs.declared.Kind.TheVariants as Kind
+use Rattle.rules.specs.Kinds.{kind_of, in_use}
 use Rattle.rules.specs.Messages as Messages
 use Rattle.rules.specs.Next.{Next, refused, moved, must, working, working_all}
 use Rattle.rules.specs.Step.{ruled, next}
@@ -43,8 +43,8 @@ must_past false n k h g = h
 
 working_past : (w : Worked) (k : ℤ → Next) → ((z : ℤ) → NotPast (k z)) → NotPast (working w k)
 unfolding working
-working_past (Value z) k h = h z
-working_past OutOfRange k h = λ e. omega arith
+working_past (Some z) k h = h z
+working_past None k h = λ e. omega arith
 
 all_past : (ws : List Worked) (k : List ℤ → Next) → ((zs : List ℤ) → NotPast (k zs)) → NotPast (working_all ws k)
 unfolding working_all
@@ -52,9 +52,9 @@ all_past [] k h = h []
 all_past (w ∷ ws) k h = working_past w _ (λ z. all_past ws (λ zs. k (z ∷ zs)) (λ zs. h (z ∷ zs)))
 
 -- a rule that looks something up
-option_past : {A : Type 0} (f : Option A) (n : ℕ) (k : A → Next) → n ≢ past_the_end → ((a : A) → NotPast (k a)) → NotPast (elim f as (λ _. Next) [ none ↦ refused n | some a ↦ k a ])
-option_past none n k h g = h
-option_past (some a) n k h g = g a
+option_past : {A : Type 0} (f : Option A) (n : ℕ) (k : A → Next) → n ≢ past_the_end → ((a : A) → NotPast (k a)) → NotPast (elim f as (λ _. Next) [ None ↦ refused n | Some a ↦ k a ])
+option_past None n k h g = h
+option_past (Some a) n k h g = g a
 
 -- a rule that asks something
 either_past : (b : Bool) (x y : Next) → NotPast x → NotPast y → NotPast (elim b as (λ _. Next) [ true ↦ x | false ↦ y ])
@@ -85,29 +85,29 @@ module _ (m : Model) (c : Cells) (conf : Configured m c) where
   unfolding Exec.exec
   exec_past o low high = go (label_of c (of_object c o running_label)) refl
     where
-      stood : (l : ℕ) (x : Option Standing) → standing_of m c l ≡ x → (x ≡ none → ⊥)
-          → NotPast (elim x as (λ _. Next) [ none ↦ refused past_the_end | some at ↦ performed m c o l at (worked_out (here c o l) at.statement) ])
-      stood l none e n = absurd (n refl)
-      stood l (some at) e n = performed_past m c o l at _
+      stood : (l : ℕ) (x : Option Standing) → standing_of m c l ≡ x → (x ≡ None → ⊥)
+          → NotPast (elim x as (λ _. Next) [ None ↦ refused past_the_end | Some at ↦ performed m c o l at (worked_out (here c o l) at.statement) ])
+      stood l None e n = absurd (n refl)
+      stood l (Some at) e n = performed_past m c o l at _
 
       go : (f : Option ℕ) → label_of c (of_object c o running_label) ≡ f
           → NotPast (elim f as (λ _. Next) [
-            | none ↦ refused object_idle
-            | some l ↦ elim (standing_of m c l) as (λ _. Next) [ none ↦ refused past_the_end | some at ↦ performed m c o l at (worked_out (here c o l) at.statement) ]
+            | None ↦ refused object_idle
+            | Some l ↦ elim (standing_of m c l) as (λ _. Next) [ None ↦ refused past_the_end | Some at ↦ performed m c o l at (worked_out (here c o l) at.statement) ]
           ])
-      go none e = λ z. omega arith
-      go (some l) e =
+      go None e = λ z. omega arith
+      go (Some l) e =
           stood l (standing_of m c l) refl (λ f. no_some (sym f ∙ stands_there m c o l (performing m c o l conf low high e)))
 
   -- a rule at a number in use
   rule_past : (k : Kind) (n : ℕ) → 1 ≤ n → n ≤ in_use c k → NotPast (ruled m c k n)
   unfolding ruled in_use Messages.arrive Messages.bind Messages.start Messages.start_in Messages.deliver
-  rule_past exec n low high = exec_past n low high
-  rule_past arrive n low high = must_past _ _ _ (λ e. omega arith) tt
-  rule_past bind n low high = must_past _ _ _ (λ e. omega arith) (option_past (body_of m c n) _ _ (λ e. omega arith) (λ b. tt))
-  rule_past start n low high =
+  rule_past Kind.Exec n low high = exec_past n low high
+  rule_past Kind.Arrive n low high = must_past _ _ _ (λ e. omega arith) tt
+  rule_past Kind.Bind n low high = must_past _ _ _ (λ e. omega arith) (option_past (body_of m c n) _ _ (λ e. omega arith) (λ b. tt))
+  rule_past Kind.Start n low high =
       must_past _ _ _ (λ e. omega arith) (must_past _ _ _ (λ e. omega arith) (working_past _ _ (λ z. must_past _ _ _ (λ e. omega arith) tt)))
-  rule_past deliver n low high = must_past _ _ _ (λ e. omega arith) tt
+  rule_past Kind.Deliver n low high = must_past _ _ _ (λ e. omega arith) tt
 
   -- any choice
   next_past : (choice : Choice) → NotPast (next m c choice)
@@ -117,9 +117,9 @@ module _ (m : Model) (c : Cells) (conf : Configured m c) where
       (λ k. numbered k (up_to (in_use c k) choice.number) refl)
     where
       numbered : (k : Kind) (x : Option ℕ) → up_to (in_use c k) choice.number ≡ x
-          → NotPast (elim x as (λ _. Next) [ none ↦ refused not_in_use | some n ↦ ruled m c k n ])
-      numbered k none e = λ z. omega arith
-      numbered k (some n) e = let (low, high) = up_to_some (in_use c k) choice.number n e in rule_past k n low high
+          → NotPast (elim x as (λ _. Next) [ None ↦ refused not_in_use | Some n ↦ ruled m c k n ])
+      numbered k None e = λ z. omega arith
+      numbered k (Some n) e = let (low, high) = up_to_some (in_use c k) choice.number n e in rule_past k n low high
 
 -- no step from a configuration is refused with 28
 pub never_past : (m : Model) (c : Cells) → is_configuration m c ≡ true → (choice : Choice) → next m c choice ≢ refused past_the_end

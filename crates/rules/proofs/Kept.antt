@@ -1,8 +1,8 @@
 -- A step keeps a configuration of an accepted model; and no step finds its line past the method's end. Assumes nothing.
+use Rattle.std.specs.Prelude.{Some}
 use Prim.Native.Nat.{ℕ, ◌≤◌}
 use mathlib.Core.Bool.{true, false}
 use mathlib.Core.List.{List, map}
-use mathlib.Core.Option.{some}
 use mathlib.Core.Path.{◌≡◌, refl, sym, ap, subst, ◌∙◌}
 use mathlib.Core.Logic.{◌≢◌}
 use native.Mathlib.Omega.{arith}
@@ -25,7 +25,9 @@ use Rattle.cells.proofs.NewFacts.{item_at}
 use Rattle.rules.specs.declared.Choice.{Choice}
 use Rattle.rules.specs.Exec.{here, worked_out, onward, jumped, assigned, created, issued, freed, awaited, branched, returned, performed}
 use Rattle.rules.specs.Exec as Exec
-use Rattle.rules.specs.Kinds.{Kind, exec, arrive, bind, start, deliver, in_use}
+use Rattle.rules.specs.declared.Kind.{Kind}
+use Rattle.rules.specs.declared.Kind.TheVariants as Kind
+use Rattle.rules.specs.Kinds.{in_use}
 use Rattle.rules.specs.Next.{moved}
 use Rattle.rules.specs.Step.{ruled, next}
 use Rattle.rules.proofs.Chosen.{up_to_some}
@@ -107,7 +109,7 @@ module _ (m : Model) (accepted : AcceptedModel m) (c : Cells) (conf : Configured
   exec_keeps o low high ws e =
       let (l, at, label, there, f) = exec_moved m c o ws e in
       let p = performing m c o l conf low high label in
-      let same : some at ≡ some (standing p) = sym there ∙ stands_there m c o l p in
+      let same : Some at ≡ Some (standing p) = sym there ∙ stands_there m c o l p in
       let at-is : at ≡ standing p = cc in
       performed_keeps m accepted c o l p ws (standing p).statement refl
       (subst (λ at. performed m c o l at (worked_out (here c o l) at.statement) ≡ moved ws) at-is f)
@@ -115,11 +117,11 @@ module _ (m : Model) (accepted : AcceptedModel m) (c : Cells) (conf : Configured
   -- a rule at a number in use
   pub rule_keeps : (k : Kind) (n : ℕ) → 1 ≤ n → n ≤ in_use c k → (ws : List Write) → ruled m c k n ≡ moved ws → Configured m (written c ws)
   unfolding ruled in_use
-  rule_keeps exec n low high ws e = exec_keeps n low high ws e
-  rule_keeps arrive n low high ws e = arrive_keeps m c conf n low high ws e
-  rule_keeps bind n low high ws e = bind_keeps m c conf n low high accepted ws e
-  rule_keeps start n low high ws e = start_keeps m c conf n low high ws e
-  rule_keeps deliver n low high ws e = deliver_keeps m c conf n low high ws e
+  rule_keeps Kind.Exec n low high ws e = exec_keeps n low high ws e
+  rule_keeps Kind.Arrive n low high ws e = arrive_keeps m c conf n low high ws e
+  rule_keeps Kind.Bind n low high ws e = bind_keeps m c conf n low high accepted ws e
+  rule_keeps Kind.Start n low high ws e = start_keeps m c conf n low high ws e
+  rule_keeps Kind.Deliver n low high ws e = deliver_keeps m c conf n low high ws e
 
   -- a choice that moved
   pub step_keeps : (choice : Choice) (ws : List Write) → next m c choice ≡ moved ws → Configured m (written c ws)

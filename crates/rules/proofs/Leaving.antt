@@ -6,7 +6,7 @@ use mathlib.Core.Path.{◌≡◌, refl, sym, ap, subst, ◌∙◌}
 use native.Mathlib.Omega.{arith}
 use lib.IntN.{ℤ, pos}
 use Rattle.whole.specs.Whole.{eq_z, nat}
-use Rattle.layout.specs.Layout.{Cells, written, object_rows, read, objects, calls, of_object, of_call, to_object, to_call, class, running_label, stage, caller, callee, cleared, value}
+use Rattle.layout.specs.Layout.{Cells, written, object_rows, read, objects, calls, of_object, of_call, to_object, to_call, class, running_label, caller, callee, cleared, value}
 use Rattle.layout.specs.Stages.{bound, answered, taken, nobody, objects_in_use, staged}
 use Rattle.code.specs.declared.Shape.TheVariants as Shape
 use Rattle.code.specs.Blocks.{shape_of}

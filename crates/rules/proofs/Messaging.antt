@@ -1,16 +1,15 @@
 -- arrive, bind, start and deliver keep a configuration: a stage goes from one to another, and with it a running label. Assumes nothing.
+use Rattle.std.specs.Prelude.{Option, None, Some, slice_get}
 use Prim.Native.Nat.{ℕ, ◌≤◌}
 use mathlib.Core.Bool.{true}
 use mathlib.Core.List.{List}
-use mathlib.Core.Option.{Option, none, some}
 use mathlib.Core.Path.{◌≡◌, refl, sym, ap, subst, ◌∙◌}
 use mathlib.Core.Logic.{◌≢◌}
 use native.Mathlib.Omega.{arith}
 use lib.IntN.{ℤ, pos}
-use lib.ListN.{get_elem?}
 use Rattle.whole.specs.Refusals.{not_invoked, not_queued, no_such_method, not_bound, object_busy, not_ready, not_answered}
 use Rattle.whole.specs.Whole.{eq_z, nat}
-use Rattle.layout.specs.Layout.{Cells, Write, written, most_attributes, attribute, object_rows, call_rows, objects, calls, of_object, of_call, to_object, class, running_label, stage, callee, method, args, line}
+use Rattle.layout.specs.Layout.{Cells, Write, written, most_attributes, attribute, object_rows, call_rows, of_object, of_call, to_object, class, running_label, stage, callee, method, args, line}
 use Rattle.layout.specs.Stages.{invoked, queued, bound, running, answered, replied, taken, objects_in_use, rows_in_use, in_stage, staged}
 use Rattle.model.specs.Accepted.{AcceptedModel}
 use Rattle.model.specs.Model.{Model, Method}
@@ -109,9 +108,9 @@ module _ (m : Model) (c : Cells) (conf : Configured m c) (l : ℕ) (low : 1 ≤ 
       go s (body_of m c l) refl f
     where
       go : in_stage c l queued ≡ true → (x : Option Method) → body_of m c l ≡ x
-          → (elim x [ none ↦ refused no_such_method | some b ↦ moved (staged c l bound) ]) ≡ moved ws → Configured m (written c ws)
-      go s none g f = absurd (refused_moved f)
-      go s (some b) g f =
+          → (elim x [ None ↦ refused no_such_method | Some b ↦ moved (staged c l bound) ]) ≡ moved ws → Configured m (written c ws)
+      go s None g f = absurd (refused_moved f)
+      go s (Some b) g f =
           let (n, idle) = stage_not queued (λ z. omega arith) s in
           let (k, exists, has, params) = body_at m c l o of b g in
           let ok = method_accepted accepted _ k exists.there _ b has in
@@ -126,7 +125,7 @@ module _ (m : Model) (c : Cells) (conf : Configured m c) (l : ℕ) (low : 1 ≤ 
             has = has;
             params = params;
             counts = u.line ∙ ap pos (sym (nat_of u.line));
-            inside = ap (get_elem? b.code) (nat_of u.line) ∙ at;
+            inside = ap (slice_get b.code) (nat_of u.line) ∙ at;
           } in
           subst (λ ws. Configured m (written c ws)) (writes_are f) (stage_goes bound idle (bound_now m _ _ _ l _ holds n a ok.locals.0))
 

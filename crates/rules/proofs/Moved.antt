@@ -1,14 +1,13 @@
 -- What a rule that moved has passed: the tests before it, the values that it worked out, and the number that it was chosen by. Assumes nothing.
+use Rattle.std.specs.Prelude.{Option, None, Some}
 use Prim.Native.Nat.{ℕ, suc}
 use mathlib.Core.Bool.{Bool, true, false}
 use mathlib.Core.List.{List, [], ◌∷◌}
-use mathlib.Core.Option.{Option, none, some}
 use mathlib.Core.Path.{◌≡◌, refl, ap}
 use native.Mathlib.Omega.{arith}
 use lib.IntN.{ℤ}
 use lib.ListN.{length}
-use Rattle.whole.specs.declared.Worked.{Worked}
-use Rattle.whole.specs.declared.Worked.TheVariants.{Value, OutOfRange}
+use Rattle.whole.specs.Whole.{Worked}
 use Rattle.whole.specs.Refusals.{not_in_use, object_idle, past_the_end}
 use Rattle.layout.specs.Layout.{Cells, Write, of_object, running_label}
 use Rattle.layout.specs.Stages.{up_to, label_of}
@@ -16,7 +15,8 @@ use Rattle.model.specs.Model.{Model}
 use Rattle.cells.specs.Standing.{Standing, standing_of}
 use Rattle.rules.specs.declared.Choice.{Choice}
 use Rattle.rules.specs.Exec.{here, worked_out, performed, exec}
-use Rattle.rules.specs.Kinds.{Kind, kind_of, in_use}
+use Rattle.rules.specs.declared.Kind.{Kind}
+use Rattle.rules.specs.Kinds.{kind_of, in_use}
 use Rattle.rules.specs.Next.{Next, refused, moved, must, working, working_all}
 use Rattle.rules.specs.Step.{ruled, next}
 
@@ -31,10 +31,10 @@ must_moved true n k ws e = (refl, e)
 must_moved false n k ws e = absurd (refused_moved e)
 
 -- a value that was worked out, and several
-pub working_moved : (w : Worked) (k : ℤ → Next) (ws : List Write) → working w k ≡ moved ws → (z : ℤ) × (w ≡ Value z) × (k z ≡ moved ws)
+pub working_moved : (w : Worked) (k : ℤ → Next) (ws : List Write) → working w k ≡ moved ws → (z : ℤ) × (w ≡ Some z) × (k z ≡ moved ws)
 unfolding working
-working_moved (Value z) k ws e = (z, refl, e)
-working_moved OutOfRange k ws e = absurd (refused_moved e)
+working_moved (Some z) k ws e = (z, refl, e)
+working_moved None k ws e = absurd (refused_moved e)
 
 pub all_moved : (vs : List Worked) (k : List ℤ → Next) (ws : List Write) → working_all vs k ≡ moved ws → (zs : List ℤ) × (length zs ≡ length vs) × (k zs ≡ moved ws)
 unfolding working_all
@@ -47,37 +47,37 @@ all_moved (v ∷ vs) k ws e =
 module _ (m : Model) (c : Cells) where
   -- a choice that moved is the rule of its kind at a number in use
   pub next_moved : (choice : Choice) (ws : List Write) → next m c choice ≡ moved ws
-      → (k : Kind) × (n : ℕ) × (kind_of choice.kind ≡ some k) × (up_to (in_use c k) choice.number ≡ some n) × (ruled m c k n ≡ moved ws)
+      → (k : Kind) × (n : ℕ) × (kind_of choice.kind ≡ Some k) × (up_to (in_use c k) choice.number ≡ Some n) × (ruled m c k n ≡ moved ws)
   unfolding next
   next_moved choice ws e = kinds (kind_of choice.kind) refl e
     where
-      numbers : (k : Kind) (x : Option ℕ) → up_to (in_use c k) choice.number ≡ x → (elim x [ none ↦ refused not_in_use | some n ↦ ruled m c k n ]) ≡ moved ws
-          → (n : ℕ) × (up_to (in_use c k) choice.number ≡ some n) × (ruled m c k n ≡ moved ws)
-      numbers k none f e = absurd (refused_moved e)
-      numbers k (some n) f e = (n, f, e)
+      numbers : (k : Kind) (x : Option ℕ) → up_to (in_use c k) choice.number ≡ x → (elim x [ None ↦ refused not_in_use | Some n ↦ ruled m c k n ]) ≡ moved ws
+          → (n : ℕ) × (up_to (in_use c k) choice.number ≡ Some n) × (ruled m c k n ≡ moved ws)
+      numbers k None f e = absurd (refused_moved e)
+      numbers k (Some n) f e = (n, f, e)
 
       kinds : (x : Option Kind) → kind_of choice.kind ≡ x
-          → (elim x [ none ↦ refused not_in_use | some k ↦ elim (up_to (in_use c k) choice.number) [ none ↦ refused not_in_use | some n ↦ ruled m c k n ] ]) ≡ moved ws
-          → (k : Kind) × (n : ℕ) × (kind_of choice.kind ≡ some k) × (up_to (in_use c k) choice.number ≡ some n) × (ruled m c k n ≡ moved ws)
-      kinds none f e = absurd (refused_moved e)
-      kinds (some k) f e = let (n, g, h) = numbers k (up_to (in_use c k) choice.number) refl e in (k, n, f, g, h)
+          → (elim x [ None ↦ refused not_in_use | Some k ↦ elim (up_to (in_use c k) choice.number) [ None ↦ refused not_in_use | Some n ↦ ruled m c k n ] ]) ≡ moved ws
+          → (k : Kind) × (n : ℕ) × (kind_of choice.kind ≡ Some k) × (up_to (in_use c k) choice.number ≡ Some n) × (ruled m c k n ≡ moved ws)
+      kinds None f e = absurd (refused_moved e)
+      kinds (Some k) f e = let (n, g, h) = numbers k (up_to (in_use c k) choice.number) refl e in (k, n, f, g, h)
 
   -- an exec that moved is a line performed by the object's running call
   pub exec_moved : (o : ℕ) (ws : List Write) → exec m c o ≡ moved ws
-      → (l : ℕ) × (at : Standing) × (label_of c (of_object c o running_label) ≡ some l) × (standing_of m c l ≡ some at)
+      → (l : ℕ) × (at : Standing) × (label_of c (of_object c o running_label) ≡ Some l) × (standing_of m c l ≡ Some at)
       × (performed m c o l at (worked_out (here c o l) at.statement) ≡ moved ws)
   unfolding exec
   exec_moved o ws e = labels (label_of c (of_object c o running_label)) refl e
     where
       standings : (l : ℕ) (x : Option Standing) → standing_of m c l ≡ x
-          → (elim x [ none ↦ refused past_the_end | some at ↦ performed m c o l at (worked_out (here c o l) at.statement) ]) ≡ moved ws
-          → (at : Standing) × (standing_of m c l ≡ some at) × (performed m c o l at (worked_out (here c o l) at.statement) ≡ moved ws)
-      standings l none f e = absurd (refused_moved e)
-      standings l (some at) f e = (at, f, e)
+          → (elim x [ None ↦ refused past_the_end | Some at ↦ performed m c o l at (worked_out (here c o l) at.statement) ]) ≡ moved ws
+          → (at : Standing) × (standing_of m c l ≡ Some at) × (performed m c o l at (worked_out (here c o l) at.statement) ≡ moved ws)
+      standings l None f e = absurd (refused_moved e)
+      standings l (Some at) f e = (at, f, e)
 
       labels : (x : Option ℕ) → label_of c (of_object c o running_label) ≡ x
-          → (elim x [ none ↦ refused object_idle | some l ↦ elim (standing_of m c l) [ none ↦ refused past_the_end | some at ↦ performed m c o l at (worked_out (here c o l) at.statement) ] ]) ≡ moved ws
-          → (l : ℕ) × (at : Standing) × (label_of c (of_object c o running_label) ≡ some l) × (standing_of m c l ≡ some at)
+          → (elim x [ None ↦ refused object_idle | Some l ↦ elim (standing_of m c l) [ None ↦ refused past_the_end | Some at ↦ performed m c o l at (worked_out (here c o l) at.statement) ] ]) ≡ moved ws
+          → (l : ℕ) × (at : Standing) × (label_of c (of_object c o running_label) ≡ Some l) × (standing_of m c l ≡ Some at)
           × (performed m c o l at (worked_out (here c o l) at.statement) ≡ moved ws)
-      labels none f e = absurd (refused_moved e)
-      labels (some l) f e = let (at, g, h) = standings l (standing_of m c l) refl e in (l, at, f, g, h)
+      labels None f e = absurd (refused_moved e)
+      labels (Some l) f e = let (at, g, h) = standings l (standing_of m c l) refl e in (l, at, f, g, h)

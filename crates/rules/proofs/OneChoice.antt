@@ -1,8 +1,8 @@
 -- An accepted step changes the cells, and two different accepted choices never lead to the same ones. Assumes nothing.
+use Rattle.std.specs.Prelude.{Some}
 use Prim.Native.Nat.{ℕ, zero, suc, ◌≤◌}
 use mathlib.Core.Bool.{Bool, true, false}
 use mathlib.Core.List.{List}
-use mathlib.Core.Option.{some}
 use mathlib.Core.Path.{◌≡◌, refl, sym, ap, subst, ◌∙◌}
 use mathlib.Core.Logic.{◌≢◌}
 use native.Mathlib.Omega.{arith}
@@ -23,7 +23,9 @@ use Rattle.cells.proofs.CallFromTest.{counted_is}
 use Rattle.cells.proofs.Configured.{configured}
 use Rattle.rules.specs.declared.Choice.{Choice}
 use Rattle.rules.specs.Exec.{here, worked_out, performed}
-use Rattle.rules.specs.Kinds.{Kind, exec, arrive, bind, start, deliver, kind_number, kind_of, in_use}
+use Rattle.rules.specs.declared.Kind.{Kind}
+use Rattle.rules.specs.declared.Kind.TheVariants as Kind
+use Rattle.rules.specs.Kinds.{kind_number, kind_of, in_use}
 use Rattle.rules.specs.Next.{moved}
 use Rattle.rules.specs.Step.{ruled, next}
 use Rattle.rules.proofs.Chosen.{up_to_some}
@@ -36,23 +38,23 @@ module _ (m : Model) (accepted : AcceptedModel m) (c : Cells) (conf : Configured
   -- a rule at a number in use moves a call
   rule_moves : (k : Kind) (n : ℕ) → 1 ≤ n → n ≤ in_use c k → (ws : List Write) → ruled m c k n ≡ moved ws → (l : ℕ) × Moves c (written c ws) k n l
   unfolding ruled in_use
-  rule_moves exec o low high ws e =
+  rule_moves Kind.Exec o low high ws e =
       let (l, at, label, there, f) = exec_moved m c o ws e in
       let p = performing m c o l conf low high label in
-      let same : some at ≡ some (standing p) = sym there ∙ stands_there m c o l p in
+      let same : Some at ≡ Some (standing p) = sym there ∙ stands_there m c o l p in
       let at-is : at ≡ standing p = cc in (
         l,
         performed_moves m accepted c o l p ws (standing p).statement refl
             (subst (λ at. performed m c o l at (worked_out (here c o l) at.statement) ≡ moved ws) at-is f),
       )
-  rule_moves arrive n low high ws e = (n, arrive_moves m c conf n low high ws e)
-  rule_moves bind n low high ws e = (n, bind_moves m c conf n low high ws e)
-  rule_moves start n low high ws e = (n, start_moves m c conf n low high ws e)
-  rule_moves deliver n low high ws e = (n, deliver_moves m c conf n low high ws e)
+  rule_moves Kind.Arrive n low high ws e = (n, arrive_moves m c conf n low high ws e)
+  rule_moves Kind.Bind n low high ws e = (n, bind_moves m c conf n low high ws e)
+  rule_moves Kind.Start n low high ws e = (n, start_moves m c conf n low high ws e)
+  rule_moves Kind.Deliver n low high ws e = (n, deliver_moves m c conf n low high ws e)
 
   -- and so does an accepted choice
   pub step_moves : (choice : Choice) (ws : List Write) → next m c choice ≡ moved ws
-      → (k : Kind) × (n : ℕ) × (l : ℕ) × (kind_of choice.kind ≡ some k) × (up_to (in_use c k) choice.number ≡ some n) × Moves c (written c ws) k n l
+      → (k : Kind) × (n : ℕ) × (l : ℕ) × (kind_of choice.kind ≡ Some k) × (up_to (in_use c k) choice.number ≡ Some n) × Moves c (written c ws) k n l
   step_moves choice ws e =
       let (k, n, kind, number, f) = next_moved m c choice ws e in
       let (low, high) = up_to_some (in_use c k) choice.number n number in
@@ -69,41 +71,41 @@ changes_cells m accepted c e choice ws f same =
 -- a kind by the stage before it
 kind_before_lem : ℕ → Kind
 kind_before_lem n = elim (eqb n 1) [
-  | true ↦ arrive
+  | true ↦ Kind.Arrive
   | false ↦ elim (eqb n 2) [
-    | true ↦ bind
+    | true ↦ Kind.Bind
     | false ↦ elim (eqb n 3) [
-      | true ↦ start
-      | false ↦ elim (eqb n 4) [ true ↦ exec | false ↦ deliver ]
+      | true ↦ Kind.Start
+      | false ↦ elim (eqb n 4) [ true ↦ Kind.Exec | false ↦ Kind.Deliver ]
     ]
   ]
 ]
 
 kind_before : (k : Kind) → kind_before_lem (stage_before k) ≡ k
 unfolding kind_before_lem
-kind_before exec = refl
-kind_before arrive = refl
-kind_before bind = refl
-kind_before start = refl
-kind_before deliver = refl
+kind_before Kind.Exec = refl
+kind_before Kind.Arrive = refl
+kind_before Kind.Bind = refl
+kind_before Kind.Start = refl
+kind_before Kind.Deliver = refl
 
 -- the stage before is not 6
 before_reply : (k : Kind) → stage_before k ≢ replied
-before_reply exec e = omega arith
-before_reply arrive e = omega arith
-before_reply bind e = omega arith
-before_reply start e = omega arith
-before_reply deliver e = omega arith
+before_reply Kind.Exec e = omega arith
+before_reply Kind.Arrive e = omega arith
+before_reply Kind.Bind e = omega arith
+before_reply Kind.Start e = omega arith
+before_reply Kind.Deliver e = omega arith
 
 -- a kind by its number
-number_of_kind : (z : ℤ) (k : Kind) → kind_of z ≡ some k → z ≡ pos (kind_number k)
+number_of_kind : (z : ℤ) (k : Kind) → kind_of z ≡ Some k → z ≡ pos (kind_number k)
 unfolding kind_of kind_number
 number_of_kind (pos zero) k e = absurd (no_some e)
-number_of_kind (pos (suc zero)) k e = let s : exec ≡ k = cc in ap (λ k. pos (kind_number k)) s
-number_of_kind (pos (suc (suc zero))) k e = let s : arrive ≡ k = cc in ap (λ k. pos (kind_number k)) s
-number_of_kind (pos (suc (suc (suc zero)))) k e = let s : bind ≡ k = cc in ap (λ k. pos (kind_number k)) s
-number_of_kind (pos (suc (suc (suc (suc zero))))) k e = let s : start ≡ k = cc in ap (λ k. pos (kind_number k)) s
-number_of_kind (pos (suc (suc (suc (suc (suc zero)))))) k e = let s : deliver ≡ k = cc in ap (λ k. pos (kind_number k)) s
+number_of_kind (pos (suc zero)) k e = let s : Kind.Exec ≡ k = cc in ap (λ k. pos (kind_number k)) s
+number_of_kind (pos (suc (suc zero))) k e = let s : Kind.Arrive ≡ k = cc in ap (λ k. pos (kind_number k)) s
+number_of_kind (pos (suc (suc (suc zero)))) k e = let s : Kind.Bind ≡ k = cc in ap (λ k. pos (kind_number k)) s
+number_of_kind (pos (suc (suc (suc (suc zero))))) k e = let s : Kind.Start ≡ k = cc in ap (λ k. pos (kind_number k)) s
+number_of_kind (pos (suc (suc (suc (suc (suc zero)))))) k e = let s : Kind.Deliver ≡ k = cc in ap (λ k. pos (kind_number k)) s
 number_of_kind (pos (suc (suc (suc (suc (suc (suc n))))))) k e = absurd (no_some e)
 number_of_kind (negsuc n) k e = absurd (no_some e)
 

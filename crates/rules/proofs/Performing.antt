@@ -1,14 +1,14 @@
 -- An object's running call at its line, and what its writes leave: on to another line of its method, with a variable stored. Assumes nothing.
+use Rattle.std.specs.Prelude.{Some, slice_get}
 use Prim.Native.Nat.{ℕ, ◌≤◌, ◌<◌}
 use mathlib.Core.Bool.{Bool, true, false}
 use mathlib.Core.List.{◌++◌}
-use mathlib.Core.Option.{some}
 use mathlib.Core.Path.{◌≡◌, refl, sym, ap, subst, fun_ext, ◌∙◌}
 use native.Mathlib.Omega.{arith}
 use borrow.Author.Tests.{eqb-true, ltb-true}
 use lib.Dec.{eqb, ltb}
 use lib.IntN.{ℤ, pos}
-use lib.ListN.{length, get_elem?}
+use lib.ListN.{length}
 use Rattle.whole.specs.Whole.{nat}
 use Rattle.layout.specs.Layout.{Cells, written, most_attributes, most_locals, object_rows, call_rows, read, objects, calls, of_object, of_call, to_object, to_call, class, running_label, attribute, stage, callee, method, args, line, cleared, local}
 use Rattle.layout.specs.Stages.{running, objects_in_use, rows_in_use, label_of}
@@ -45,7 +45,7 @@ abbrev pub standing : {m : Model} {c : Cells} {o l : ℕ} → Performing m c o l
 standing {c = c} {l = l} p = record { body = p.bound.stands.body; at = nat (of_call c l line); statement = p.bound.stands.statement }
 
 -- an object that is not idle has one
-pub performing : (m : Model) (c : Cells) (o l : ℕ) → Configured m c → 1 ≤ o → o ≤ objects_in_use c → label_of c (of_object c o running_label) ≡ some l
+pub performing : (m : Model) (c : Cells) (o l : ℕ) → Configured m c → 1 ≤ o → o ≤ objects_in_use c → label_of c (of_object c o running_label) ≡ Some l
     → Performing m c o l
 unfolding label_of
 performing m c o l conf low high e =
@@ -67,7 +67,7 @@ performing m c o l conf low high e =
     }
 
 -- and stands where the definition says
-pub stands_there : (m : Model) (c : Cells) (o l : ℕ) (p : Performing m c o l) → standing_of m c l ≡ some (standing p)
+pub stands_there : (m : Model) (c : Cells) (o l : ℕ) (p : Performing m c o l) → standing_of m c l ≡ Some (standing p)
 stands_there m c o l p =
     standing_there m c l o p.callee p.bound.stands (call_at m c l o p.conf p.call.0 p.call.1 p.callee).method.counts
 
@@ -100,7 +100,7 @@ uncleared row e = fun_ext (λ g. go g (eqb g cleared) refl)
 
 -- one class for a cell
 pub one_class : {m : Model} {k : ℤ} {a b : Class} → ClassAt m k a → ClassAt m k b → a ≡ b
-one_class {a = a} {b = b} x y = let e : some a ≡ some b = sym x.there ∙ y.there in cc
+one_class {a = a} {b = b} x y = let e : Some a ≡ Some b = sym x.there ∙ y.there in cc
 
 module _ (m : Model) (c : Cells) (o l : ℕ) (p : Performing m c o l) (d : Cells) (s : Still m c d o l) where
   -- the counts, the row and the callee, of the cells after the first part
@@ -122,7 +122,7 @@ module _ (m : Model) (c : Cells) (o l : ℕ) (p : Performing m c o l) (d : Cells
   stage_is = ap (λ (row : Fields). row stage) s.row ∙ p.stage
 
   -- a line of its method
-  stands_on : (i : ℕ) (st : Code) → get_elem? p.bound.stands.body.code i ≡ some st → StandsAt m (of_object d o class) (of_call d l method) (of_call d l args) (pos i)
+  stands_on : (i : ℕ) (st : Code) → slice_get p.bound.stands.body.code i ≡ Some st → StandsAt m (of_object d o class) (of_call d l method) (of_call d l args) (pos i)
   unfolding nat
   stands_on i st e =
       let a = p.bound.stands in
@@ -131,14 +131,14 @@ module _ (m : Model) (c : Cells) (o l : ℕ) (p : Performing m c o l) (d : Cells
         body = a.body;
         statement = st;
         exists = subst (λ k. ClassAt m k a.class) (sym s.class) a.exists;
-        has = ap (λ (row : Fields). get_elem? a.class.methods (nat (row method))) s.row ∙ a.has;
+        has = ap (λ (row : Fields). slice_get a.class.methods (nat (row method))) s.row ∙ a.has;
         params = ap (λ (row : Fields). row args) s.row ∙ a.params;
         counts = refl;
         inside = e;
       }
 
   -- the call goes to a line of its method, with cleared 0, some locals, and some row of its object
-  pub goes_on : (i : ℕ) (st : Code) → get_elem? p.bound.stands.body.code i ≡ some st → (e : Cells) (its v : Fields)
+  pub goes_on : (i : ℕ) (st : Code) → slice_get p.bound.stands.body.code i ≡ Some st → (e : Cells) (its v : Fields)
       → Rows d e (read d objects) (read d calls) l o (put line (pos i) (put cleared (pos 0) (with_locals (of_call d l) v))) its
       → ZeroFrom most_locals p.bound.stands.body.locals (λ i. v (local i))
       → its class ≡ of_object d o class → its running_label ≡ of_object d o running_label

@@ -1,7 +1,7 @@
 -- A reply that is taken: the label is in use and in stage 6, and the running call is as it was. Assumes nothing.
+use Rattle.std.specs.Prelude.{Option, None, Some}
 use Prim.Native.Nat.{ℕ, ◌≤◌}
 use mathlib.Core.Bool.{Bool, true, false}
-use mathlib.Core.Option.{Option, none, some}
 use mathlib.Core.Path.{◌≡◌, refl, ap, subst, ◌∙◌}
 use native.Mathlib.Omega.{arith}
 use lib.IntN.{ℤ, pos}
@@ -20,24 +20,24 @@ use Rattle.rules.proofs.Messaging.{label_row, taken_keeps}
 use Rattle.rules.proofs.Performing.{Performing, Still}
 
 -- a reply for an object is a label in use, in stage 6
-pub reply_is : (c : Cells) (o : ℕ) (z : ℤ) (from : ℕ) → reply_for c o z ≡ some from → (1 ≤ from) × (from ≤ rows_in_use c) × (in_stage c from replied ≡ true)
+pub reply_is : (c : Cells) (o : ℕ) (z : ℤ) (from : ℕ) → reply_for c o z ≡ Some from → (1 ≤ from) × (from ≤ rows_in_use c) × (in_stage c from replied ≡ true)
 unfolding reply_for label_of is_reply only_if
 reply_is c o z from e = go (label_of c z) refl e
   where
-    only : (b : Bool) (l : ℕ) → is_reply c o l ≡ b → only_if b l ≡ some from → (l ≡ from) × (is_reply c o l ≡ true)
+    only : (b : Bool) (l : ℕ) → is_reply c o l ≡ b → only_if b l ≡ Some from → (l ≡ from) × (is_reply c o l ≡ true)
     only true l f e = (cc, f)
     only false l f e = absurd (no_some e)
 
-    go : (f : Option ℕ) → label_of c z ≡ f → (elim f [ none ↦ none | some l ↦ only_if (is_reply c o l) l ]) ≡ some from
+    go : (f : Option ℕ) → label_of c z ≡ f → (elim f [ None ↦ None | Some l ↦ only_if (is_reply c o l) l ]) ≡ Some from
         → (1 ≤ from) × (from ≤ rows_in_use c) × (in_stage c from replied ≡ true)
-    go none f e = absurd (no_some e)
-    go (some l) f e =
+    go None f e = absurd (no_some e)
+    go (Some l) f e =
         let (n, s) = up_to_number (rows_in_use c) z l f in
         let (t, r) = only (is_reply c o l) l refl e in
         (omega arith, omega arith, both_left (in_stage c from replied) _ (subst (λ l. is_reply c o l ≡ true) t r))
 
 -- after a reply was taken the running call is as it was
-pub reply_taken : (m : Model) (c : Cells) (o l : ℕ) → Performing m c o l → (z : ℤ) (from : ℕ) → reply_for c o z ≡ some from → Still m c (written c (staged c from taken)) o l
+pub reply_taken : (m : Model) (c : Cells) (o l : ℕ) → Performing m c o l → (z : ℤ) (from : ℕ) → reply_for c o z ≡ Some from → Still m c (written c (staged c from taken)) o l
 reply_taken m c o l p z from e =
     let (low, high, six) = reply_is c o z from e in
     let d = written c (staged c from taken) in

@@ -1,7 +1,7 @@
 -- A model whose first method is put by each case, and one step in it. Assumes nothing.
 use mathlib.Core.List.{List, [], ◌∷◌, ◌++◌, map}
 use lib.IntN.{ℤ, pos}
-use Rattle.layout.specs.Layout.{Cells, Place, read, Write, written}
+use Rattle.layout.specs.Layout.{Place, read, Write, written}
 use Rattle.terms.specs.Bytes.{Text, bytes}
 use Rattle.model.specs.Judge.{judged, refusal, model}
 use Rattle.model.specs.Model.{Model}

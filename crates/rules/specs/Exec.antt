@@ -1,12 +1,9 @@
 -- "exec O (kind 1): O's running call performs its line." Every value and every number that a rule writes is of the cells before it. Assumes
 -- nothing.
-use Rattle.std.specs.Prelude.{ℕ, ◌+◌, Bool, true, false, List, [], ◌∷◌, ◌++◌, ltb, ℤ, pos}
-use Rattle.std.proofs.Math.Option.{none, some}
-use Rattle.std.proofs.Math.ListN.{get_elem?}
-use Rattle.whole.specs.declared.Worked.{Worked}
+use Rattle.std.specs.Prelude.{ℕ, ◌+◌, Bool, true, false, List, [], ◌∷◌, ◌++◌, ltb, ℤ, pos, None, Some, slice_get}
+use Rattle.whole.specs.Whole.{Worked, is_true, eq_z}
 use Rattle.whole.specs.Plain.{whenever}
 use Rattle.whole.specs.Refusals.{object_idle, past_the_end, callee_no_object, object_rows_full, call_rows_full, reply_not_in}
-use Rattle.whole.specs.Whole.{is_true, eq_z}
 use Rattle.layout.specs.Layout.{Cells, Write, object_rows, call_rows, objects, calls, of_object, of_call, to_object, to_call, running_label, attribute, caller, line, cleared, value, local, new_object, new_call}
 use Rattle.layout.specs.Stages.{invoked, bound, running, answered, taken, nobody, objects_in_use, rows_in_use, object_of, label_of, reply_for, staged}
 use Rattle.terms.specs.declared.Variable.{Variable}
@@ -39,7 +36,7 @@ row_left c = ltb (rows_in_use c) call_rows
 
 -- a class of the model has run 1
 unfoldable pub class_runs : Model → ℕ → Bool
-class_runs m k = elim (get_elem? m k) [ none ↦ false | some class ↦ runs class ]
+class_runs m k = elim (slice_get m k) [ None ↦ false | Some class ↦ runs class ]
 
 -- the next object, of a class, with arguments in its first attributes and a running label
 unfoldable pub with_object : Cells → ℕ → ℕ → List ℤ → List Write
@@ -87,15 +84,15 @@ module _ (m : Model) (c : Cells) (o l : ℕ) (at : Standing) where
   -- "`call` issues the next label: caller this object, callee the value of E, method J, arguments in v0 on, stage 1. X gets the label."
   unfoldable pub issued : Variable → ℤ → ℕ → List ℤ → Next
   issued x z j zs = elim (object_of c z) [
-    | none ↦ refused callee_no_object
-    | some to ↦ must (row_left c) call_rows_full (moved (with_call c invoked o to j zs ++ stored c o l x (pos (next_row c)) ++ onward))
+    | None ↦ refused callee_no_object
+    | Some to ↦ must (row_left c) call_rows_full (moved (with_call c invoked o to j zs ++ stored c o l x (pos (next_row c)) ++ onward))
   ]
 
   -- "`get`: if X's value is a label of stage 6 whose caller is this object, Y gets its value and it goes to stage 7."
   unfoldable pub took_reply : Variable → Variable → Next
   took_reply x y = elim (reply_for c o (held (here c o l) x)) [
-    | none ↦ refused reply_not_in
-    | some from ↦ moved (staged c from taken ++ stored c o l y (of_call c from value) ++ onward)
+    | None ↦ refused reply_not_in
+    | Some from ↦ moved (staged c from taken ++ stored c o l y (of_call c from value) ++ onward)
   ]
 
   -- the object is idle
@@ -142,9 +139,9 @@ module _ (m : Model) (c : Cells) (o l : ℕ) (at : Standing) where
 -- the statement at the line of the object's running call
 unfoldable pub exec : Model → Cells → ℕ → Next
 exec m c o = elim (label_of c (of_object c o running_label)) [
-  | none ↦ refused object_idle
-  | some l ↦ elim (standing_of m c l) [
-    | none ↦ refused past_the_end
-    | some at ↦ performed m c o l at (worked_out (here c o l) at.statement)
+  | None ↦ refused object_idle
+  | Some l ↦ elim (standing_of m c l) [
+    | None ↦ refused past_the_end
+    | Some at ↦ performed m c o l at (worked_out (here c o l) at.statement)
   ]
 ]

@@ -1,10 +1,7 @@
 -- arrive, bind, start and deliver: the rules of a label. Assumes nothing.
-use Rattle.std.specs.Prelude.{ℕ, List, ◌++◌, pos}
-use Rattle.std.proofs.Math.Option.{none, some}
-use Rattle.whole.specs.declared.Worked.{Worked}
-use Rattle.whole.specs.declared.Worked.TheVariants.{Value}
+use Rattle.std.specs.Prelude.{ℕ, List, ◌++◌, pos, None, Some}
+use Rattle.whole.specs.Whole.{Worked, is_true, eq_z, nat}
 use Rattle.whole.specs.Refusals.{not_invoked, not_queued, no_such_method, not_bound, object_busy, not_ready, not_answered}
-use Rattle.whole.specs.Whole.{is_true, eq_z, nat}
 use Rattle.layout.specs.Layout.{Cells, Write, of_object, of_call, to_object, running_label, callee}
 use Rattle.layout.specs.Stages.{invoked, queued, bound, running, answered, replied, in_stage, staged}
 use Rattle.code.specs.Statements.{Statement, skip, set, new, call, get, await, if, else, fi, while, od, return}
@@ -20,29 +17,29 @@ arrive c l = must (in_stage c l invoked) not_invoked (moved (staged c l queued))
 -- "bind L (3): 2 to 3, if the callee's class has the method with as many params as args."
 unfoldable pub bind : Model → Cells → ℕ → Next
 bind m c l = must (in_stage c l queued) not_queued (elim (body_of m c l) [
-  | none ↦ refused no_such_method
-  | some b ↦ moved (staged c l bound)
+  | None ↦ refused no_such_method
+  | Some b ↦ moved (staged c l bound)
 ])
 
 -- "A call is ready unless its line is an `await` whose guard is not enabled.": 1 where it is ready, 0 where it is not, or out of range
 unfoldable pub ready_at : Statement Worked Worked → Worked
-ready_at skip = Value (pos 1)
-ready_at (set x w) = Value (pos 1)
-ready_at (new x k ws) = Value (pos 1)
-ready_at (call x w j ws) = Value (pos 1)
-ready_at (get x y) = Value (pos 1)
+ready_at skip = Some (pos 1)
+ready_at (set x w) = Some (pos 1)
+ready_at (new x k ws) = Some (pos 1)
+ready_at (call x w j ws) = Some (pos 1)
+ready_at (get x y) = Some (pos 1)
 ready_at (await g) = g
-ready_at (if w) = Value (pos 1)
-ready_at else = Value (pos 1)
-ready_at fi = Value (pos 1)
-ready_at (while w) = Value (pos 1)
-ready_at od = Value (pos 1)
-ready_at (return w) = Value (pos 1)
+ready_at (if w) = Some (pos 1)
+ready_at else = Some (pos 1)
+ready_at fi = Some (pos 1)
+ready_at (while w) = Some (pos 1)
+ready_at od = Some (pos 1)
+ready_at (return w) = Some (pos 1)
 
 unfoldable pub ready : Model → Cells → ℕ → ℕ → Worked
 ready m c o l = elim (standing_of m c l) [
-  | none ↦ Value (pos 1)
-  | some at ↦ ready_at (worked_out (here c o l) at.statement)
+  | None ↦ Some (pos 1)
+  | Some at ↦ ready_at (worked_out (here c o l) at.statement)
 ]
 
 -- the callee runs the call

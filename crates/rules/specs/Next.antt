@@ -1,7 +1,6 @@
 -- What a rule gives: what it writes, or the number of its refusal. Assumes nothing.
-use Rattle.std.specs.Prelude.{ℕ, Bool, true, false, List, [], ◌∷◌, ℤ}
-use Rattle.whole.specs.declared.Worked.{Worked}
-use Rattle.whole.specs.declared.Worked.TheVariants.{Value, OutOfRange}
+use Rattle.std.specs.Prelude.{ℕ, Bool, true, false, List, [], ◌∷◌, ℤ, Some, None}
+use Rattle.whole.specs.Whole.{Worked}
 use Rattle.whole.specs.Refusals.{accepted, out_of_range}
 use Rattle.layout.specs.Layout.{Cells, Write, written}
 
@@ -27,8 +26,8 @@ must false n k = refused n
 
 -- 29, "a value out of range": what is done with a value that was worked out
 unfoldable pub working : Worked → (ℤ → Next) → Next
-working (Value z) k = k z
-working OutOfRange k = refused out_of_range
+working (Some z) k = k z
+working None k = refused out_of_range
 
 -- the same for several, from the left
 unfoldable pub working_all : List Worked → (List ℤ → Next) → Next

@@ -1,10 +1,9 @@
 // The runner: "reads this from the file `model` and choices from standard input", and writes what the definition `runner` says of their bytes.
 #![tactic(auto)]
 
-ghost use Rattle.std.specs.Prelude.{true, ◌≡◌, ◌≤◌, length, take};
-ghost use Rattle.layout.specs.Layout as Layout;
+ghost use Rattle.std.specs.Prelude.{true, ◌≡◌, ◌≤◌, ℕ, List, length, take, OnOk};
+ghost use Rattle.std.specs.Io.KnownBytes.{Consumes, Appends};
 ghost use Rattle.model.specs.Vocabulary.Known as Known;
-ghost use Rattle.model.specs.Vocabulary.Table as Table;
 ghost use Rattle.cells.specs.Configuration.{is_configuration};
 ghost use Rattle.engine.specs.Run as Run;
 ghost use Rattle.session.specs.Choices as Choices;
@@ -12,12 +11,12 @@ ghost use Rattle.session.specs.Runner as Runner;
 ghost use Rattle.transcript.specs.Vocabulary.Front as Front;
 
 use entries::running;
-use model::table;
+use lookup::program::Program;
+use model::Rows;
 use std::fs::File;
 use std::io;
 use std::io::{Read, Write};
 use transcript::{choices, reports};
-use whole::refusals;
 
 // "At most 32,768 bytes", and one more: a model that is longer is refused with 1, and has to be seen to be longer.
 const TEXT_ROOM: usize = 32769;
@@ -32,60 +31,27 @@ const INPUT_ROOM: usize = 4096;
 const MOST_CHOICES: usize = 4096;
 
 // The choices of an input, each played as its line is read: the answers at the front of the memory lent, and how many they are.
-fn play(
-    text: &[u8],
-    table: &[u16],
-    shapes: &[u8],
-    cells: &mut [i32],
-    input: &[u8],
-    answers: &mut [i32],
-) -> usize
-    requires known { Known.Known text.now table.now shapes.now }
-    requires cells_value { is_configuration (Known.model_of text.now) cells.old ≡ true }
+#[tactic(auto, using(crate::proofs::Playing::ends_within))]
+fn play(program: &Program<'_>, cells: &mut [i32], input: &[u8], answers: &mut [i32]) -> usize
+    requires cells_value { is_configuration (Known.model_of program.now.text) cells.old ≡ true }
     requires in_bounds { Choices.longest_input ≤ length answers.old }
-    ensures value { result ≡ length (Run.run_answers (Known.model_of text.now) cells.old (Choices.choices_from input.now)) }
-    ensures cells_after { cells.new ≡ Run.run_cells (Known.model_of text.now) cells.old (Choices.choices_from input.now) }
-    ensures answers_after { answers.new ≡ Front.at_front (Run.run_answers (Known.model_of text.now) cells.old (Choices.choices_from input.now)) answers.old }
+    ensures value { result ≡ length (Run.run_answers (Known.model_of program.now.text) cells.old (Choices.choices_from input.now)) }
+    ensures cells_after { cells.new ≡ Run.run_cells (Known.model_of program.now.text) cells.old (Choices.choices_from input.now) }
+    ensures answers_after { answers.new ≡ Front.at_front (Run.run_answers (Known.model_of program.now.text) cells.old (Choices.choices_from input.now)) answers.old }
     ensures upper_bound { result ≤ Choices.longest_input }
 {
+    // no plainer over `split_inclusive`: each piece would have to be stripped of its LF again, and counted all the same
     let read = choices::part_read(input);
     let mut count = 0;
     let mut at = 0;
     while at < read.len() {
         let end = choices::line_end(read, at);
         let choice = choices::choice_of(&read[at..end]);
-        running::perform(text, table, shapes, cells, answers, count, choice);
+        running::perform(program, cells, answers, count, choice);
         count += 1;
         at = end + 1;
     }
     count
-}
-
-// A session in memory lent: the table and the shapes of the text, the cells, and the answers.
-fn played(
-    text: &[u8],
-    input: &[u8],
-    table: &mut [u16],
-    shapes: &mut [u8],
-    cells: &mut [i32],
-    answers: &mut [i32],
-    out: &mut [u8],
-) -> usize
-    requires sized { Table.Sized table.old shapes.old }
-    requires cells_len { length cells.old ≡ Layout.all_cells }
-    requires in_bounds { Choices.longest_input ≤ length answers.old }
-    requires in_bounds_2 { 82000 ≤ length out.old }
-    ensures value { result ≡ length (Runner.runner text.now input.now) }
-    ensures out_after { out.new ≡ Front.at_front (Runner.runner text.now input.now) out.old }
-    ensures in_bounds { result ≤ length out.new }
-    ensures prefix { result ≡ length (take result out.new) }
-{
-    let verdict = entries::start_in(text, table, shapes, cells);
-    if verdict.number != refusals::ACCEPTED {
-        return reports::refusal(verdict, out);
-    }
-    let count = play(text, table, shapes, cells, input, answers);
-    reports::report(&answers[..count], cells, out)
 }
 
 // The bytes of the session with a model's text and an input, at the front of the memory lent, and how many they are.
@@ -96,25 +62,23 @@ fn session(text: &[u8], input: &[u8], out: &mut [u8]) -> usize
     ensures in_bounds { result ≤ length out.new }
     ensures prefix { result ≡ length (take result out.new) }
 {
-    let mut rows = [0; table::SIZE];
-    let mut shapes = [0; table::LINES];
+    let mut rows = Rows::new();
     let mut cells = [0; ALL_CELLS];
-    let mut answers = [0; MOST_CHOICES];
-    played(
-        text,
-        input,
-        &mut rows,
-        &mut shapes,
-        &mut cells,
-        &mut answers,
-        out,
-    )
+    match entries::start_in(text, &mut rows, &mut cells) {
+        Err(verdict) => reports::refusal(verdict, out),
+        Ok(program) => {
+            let mut answers = [0; MOST_CHOICES];
+            let count = play(&program, &mut cells, input, &mut answers);
+            reports::report(&answers[..count], &cells, out)
+        }
+    }
 }
 
 // What a reader gives, at the front of the memory lent, and how many bytes: it is read until the memory is full, it ends, or a read fails.
 fn read_full<R: Read>(reader: &mut R, room: &mut [u8]) -> usize
     ensures in_bounds { result ≤ length room.new }
     ensures prefix { result ≡ length (take result room.new) }
+    ensures taken { Consumes (R.remaining reader.old) (R.remaining reader.new) (take result room.new) }
 {
     let mut done = 0;
     while done < room.len() {
@@ -137,13 +101,21 @@ fn read_model(rt: &HostRuntime, text: &mut [u8]) -> usize
     }
 }
 
-// No contract can say what is read and what is written; `session` says what is made of the one for the other.
+// The input is read as far as there is room, and what the session with the model's text makes of it is written, and nothing else. A read that fails
+// ends the input, so the clause speaks of the bytes that were taken, and not of all that there are.
+fn answer<R: Read, W: Write>(text: &[u8], input: &mut R, out: &mut W) -> io::Result<()>
+    ensures { (given : List ℕ) × Consumes (R.remaining input.old) (R.remaining input.new) given × OnOk result (Appends (W.contents out.old) (W.contents out.new) (Runner.runner text.now given)) }
+{
+    let mut room = [0u8; INPUT_ROOM];
+    let given = read_full(input, &mut room);
+    let mut bytes = [0u8; reports::ROOM];
+    let written = session(text, &room[..given], &mut bytes);
+    out.write_all(&bytes[..written])
+}
+
+// No contract can say what the file and the terminal hold; `answer` says what is made of the one for the other.
 fn main(rt: HostRuntime) -> io::Result<()> {
     let mut text = [0u8; TEXT_ROOM];
     let long = read_model(&rt, &mut text);
-    let mut input = [0u8; INPUT_ROOM];
-    let given = read_full(&mut rt.stdin(), &mut input);
-    let mut out = [0u8; reports::ROOM];
-    let written = session(&text[..long], &input[..given], &mut out);
-    rt.stdout().write_all(&out[..written])
+    answer(&text[..long], &mut rt.stdin(), &mut rt.stdout())
 }

@@ -1,11 +1,12 @@
 -- "choices from standard input (at most 4,096 bytes), a line each". Assumes nothing.
-use Rattle.std.specs.Prelude.{ℕ, ◌+◌, ◌*◌, true, false, ◌&&◌, List, [], ◌∷◌, map, leb, pos, length, take, drop}
-use Rattle.std.proofs.Math.Option.{Option, none, some}
+use Rattle.std.specs.Prelude.{ℕ, ◌+◌, ◌*◌, true, false, ◌&&◌, List, [], ◌∷◌, map, leb, pos, length, take, drop, Option, None, Some}
 use Rattle.terms.specs.Bytes.{Text, bytes, digit}
 use Rattle.terms.specs.Parsed.{got, bad, word}
 use Rattle.text.specs.Lines.{lines, content}
 use Rattle.rules.specs.declared.Choice.{Choice}
-use Rattle.rules.specs.Kinds.{Kind, exec, arrive, bind, start, deliver, kinds, choose}
+use Rattle.rules.specs.declared.Kind.{Kind}
+use Rattle.rules.specs.declared.Kind.TheVariants as Kind
+use Rattle.rules.specs.Kinds.{kinds, choose}
 
 -- "(at most 4,096 bytes)"
 abbrev pub longest_input : ℕ
@@ -17,19 +18,19 @@ most_digits = 9
 
 -- digits alone, as the number that they write after another; leading zeros may stand
 unfoldable pub digits_from : ℕ → Text → Option ℕ
-digits_from n [] = some n
-digits_from n (b ∷ s) = elim (digit b) [ none ↦ none | some d ↦ digits_from (n * 10 + d) s ]
+digits_from n [] = Some n
+digits_from n (b ∷ s) = elim (digit b) [ None ↦ None | Some d ↦ digits_from (n * 10 + d) s ]
 
 unfoldable pub digits_alone : Text → Option ℕ
-digits_alone s = elim (leb 1 (length s) && leb (length s) most_digits) [ true ↦ digits_from 0 s | false ↦ none ]
+digits_alone s = elim (leb 1 (length s) && leb (length s) most_digits) [ true ↦ digits_from 0 s | false ↦ None ]
 
 -- a kind's name with its `=`
 unfoldable pub kind_name : Kind → Text
-kind_name exec = bytes "exec="
-kind_name arrive = bytes "arrive="
-kind_name bind = bytes "bind="
-kind_name start = bytes "start="
-kind_name deliver = bytes "deliver="
+kind_name Kind.Exec = bytes "exec="
+kind_name Kind.Arrive = bytes "arrive="
+kind_name Kind.Bind = bytes "bind="
+kind_name Kind.Start = bytes "start="
+kind_name Kind.Deliver = bytes "deliver="
 
 -- "A line of another form, or a number not 1 to 9 digits, is kind 0 with number 0."
 unfoldable pub no_choice : Choice
@@ -40,7 +41,7 @@ unfoldable pub choice_of : List Kind → Text → Choice
 choice_of [] l = no_choice
 choice_of (k ∷ ks) l = elim (word (kind_name k) l 0) [
   | bad at ↦ choice_of ks l
-  | got at u ↦ elim (digits_alone (drop at l)) [ none ↦ no_choice | some n ↦ choose k n ]
+  | got at u ↦ elim (digits_alone (drop at l)) [ None ↦ no_choice | Some n ↦ choose k n ]
 ]
 
 -- "Input past 4,096 bytes is not read, a last line needs no LF"

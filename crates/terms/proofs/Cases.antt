@@ -1,11 +1,11 @@
 -- Short expressions and guards, computed: how they group, where a refusal is placed, and what they give. Assumes nothing.
+use Rattle.std.specs.Prelude.{Some, None}
 use mathlib.Core.List.{List, [], ◌∷◌, ◌++◌}
 use mathlib.Core.Path.{refl}
 use lib.IntN.{pos, negsuc}
 use lib.ListN.{replicate}
 use Rattle.whole.specs.declared.Operator.TheVariants.{Plus, Minus, Times, Less}
-use Rattle.whole.specs.declared.Worked.{Worked}
-use Rattle.whole.specs.declared.Worked.TheVariants.{Value, OutOfRange}
+use Rattle.whole.specs.Whole.{Worked}
 use Rattle.whole.proofs.Tables.{Row, ◌is◌, Holds}
 use Rattle.layout.specs.Layout.{Cells, all_cells, written, objects, calls, new_call, to_call, cleared}
 use Rattle.layout.specs.Stages.{running, replied}
@@ -67,21 +67,21 @@ guarded c s = guard (values (here c)) (guard_values (here c)) limits s brackets 
 values_table : List (Row (Parsed Worked))
 values_table =
     -- each intermediate result must be in range
-    (valued (bytes "65536*65536*0") is got 13 OutOfRange)
-    ∷ (valued (bytes "2147483647+1-1") is got 14 OutOfRange)
-    ∷ (valued (bytes "0-2147483647-1") is got 14 (Value (negsuc 2147483647)))
-    ∷ (valued (bytes "self+caller+v0") is got 14 (Value (pos 3)))
-    ∷ (valued (bytes "2=v0") is got 4 (Value (pos 1)))
+    (valued (bytes "65536*65536*0") is got 13 None)
+    ∷ (valued (bytes "2147483647+1-1") is got 14 None)
+    ∷ (valued (bytes "0-2147483647-1") is got 14 (Some (negsuc 2147483647)))
+    ∷ (valued (bytes "self+caller+v0") is got 14 (Some (pos 3)))
+    ∷ (valued (bytes "2=v0") is got 4 (Some (pos 1)))
     -- "`wait` is true exactly when cleared is 1"
-    ∷ (guarded cells (bytes "wait") is got 4 (Value (pos 0)))
-    ∷ (guarded (written cells (to_call cells 1 cleared (pos 1))) (bytes "wait") is got 4 (Value (pos 1)))
+    ∷ (guarded cells (bytes "wait") is got 4 (Some (pos 0)))
+    ∷ (guarded (written cells (to_call cells 1 cleared (pos 1))) (bytes "wait") is got 4 (Some (pos 1)))
     -- "`X?` is true as for `get`"
-    ∷ (guarded cells (bytes "v0?") is got 3 (Value (pos 1)))
-    ∷ (guarded cells (bytes "a0?|wait") is got 8 (Value (pos 0)))
+    ∷ (guarded cells (bytes "v0?") is got 3 (Some (pos 1)))
+    ∷ (guarded cells (bytes "a0?|wait") is got 8 (Some (pos 0)))
     -- "All atoms are worked out."
-    ∷ (guarded cells (bytes "[1]|[2147483647+1]") is got 18 OutOfRange)
-    ∷ (guarded cells (bytes "[0]&[2147483647+1]") is got 18 OutOfRange)
-    ∷ (guarded cells (bytes "wait&[1]|(v0?)") is got 14 (Value (pos 1)))
+    ∷ (guarded cells (bytes "[1]|[2147483647+1]") is got 18 None)
+    ∷ (guarded cells (bytes "[0]&[2147483647+1]") is got 18 None)
+    ∷ (guarded cells (bytes "wait&[1]|(v0?)") is got 14 (Some (pos 1)))
     -- round brackets in a guard hold a guard
     ∷ (guarded cells (bytes "(1)") is bad 1)
     ∷ (guarded cells (bytes "((((((([(7)])))))))") is bad 8)

@@ -1,7 +1,7 @@
 -- One digit more of a decimal: by the tests that the code makes, and that it moves on. Assumes nothing.
+use Rattle.std.specs.Prelude.{Option, None, Some}
 use Prim.Native.Nat.{ℕ, ◌+◌, ◌*◌, ◌≤◌, ◌<◌}
 use mathlib.Core.Bool.{Bool, true, false}
-use mathlib.Core.Option.{Option, none, some}
 use mathlib.Core.Path.{◌≡◌, refl, sym, ap, ◌∙◌}
 use native.Mathlib.Omega.{arith}
 use borrow.Author.Tests.{le-leb, lt-leb, leb-true, leb-false, eqb-true, eqb-false, ne_eqb}
@@ -15,25 +15,25 @@ use Rattle.terms.proofs.Moving.{Moves, past_end, within_text, same_place, same_r
 
 module _ (most : ℕ) (s : Text) (at n : ℕ) where
   -- no digit; a digit more; a digit too many
-  pub counting_none : digit (byte_at s at) ≡ none → counting most s at n ≡ none
+  pub counting_none : digit (byte_at s at) ≡ None → counting most s at n ≡ None
   unfolding counting
   counting_none e = rw (e, counting)
 
-  pub counting_more : (d : ℕ) → digit (byte_at s at) ≡ some d → n * 10 + d ≤ most → counting most s at n ≡ some (got (at + 1) (n * 10 + d))
+  pub counting_more : (d : ℕ) → digit (byte_at s at) ≡ Some d → n * 10 + d ≤ most → counting most s at n ≡ Some (got (at + 1) (n * 10 + d))
   unfolding counting
   counting_more d e h = rw (e, le-leb (n * 10 + d) most h, counting)
 
-  pub counting_past : (d : ℕ) → digit (byte_at s at) ≡ some d → most < n * 10 + d → counting most s at n ≡ some (bad at)
+  pub counting_past : (d : ℕ) → digit (byte_at s at) ≡ Some d → most < n * 10 + d → counting most s at n ≡ Some (bad at)
   unfolding counting
   counting_past d e h = rw (e, lt-leb (n * 10 + d) most h, counting)
 
 -- a digit more moves on, and none stands past the end
-pub counting_moves : (most : ℕ) (s : Text) (at p n k : ℕ) → counting most s at n ≡ some (got p k) → at < p
+pub counting_moves : (most : ℕ) (s : Text) (at p n k : ℕ) → counting most s at n ≡ Some (got p k) → at < p
 counting_moves most s at p n k e = go (digit (byte_at s at)) refl
   where
     go : (o : Option ℕ) → digit (byte_at s at) ≡ o → at < p
-    go none f = let c = counting_none most s at n f in absurd (let z : ◌≡◌ {A = ℕ} 0 1 = cc in omega arith)
-    go (some d) f = test (leb (n * 10 + d) most) refl
+    go None f = let c = counting_none most s at n f in absurd (let z : ◌≡◌ {A = ℕ} 0 1 = cc in omega arith)
+    go (Some d) f = test (leb (n * 10 + d) most) refl
       where
         test : (t : Bool) → leb (n * 10 + d) most ≡ t → at < p
         test true g =
@@ -46,19 +46,19 @@ counting_moves most s at p n k e = go (digit (byte_at s at)) refl
             let q : bad at ≡ got p k = cc in
             absurd (no_got _ _ _ q)
 
-pub counting_stops : (most : ℕ) (s : Text) (at n : ℕ) → length s ≤ at → counting most s at n ≡ none
+pub counting_stops : (most : ℕ) (s : Text) (at n : ℕ) → length s ≤ at → counting most s at n ≡ None
 counting_stops most s at n h = counting_none most s at n (ap digit (past_end s at h) ∙ (unfold digit in refl))
 
 -- a digit stands within the text
-pub digit_within : (s : Text) (at d : ℕ) → digit (byte_at s at) ≡ some d → at < length s
+pub digit_within : (s : Text) (at d : ℕ) → digit (byte_at s at) ≡ Some d → at < length s
 digit_within s at d e = within_text s at (byte_at s at) refl (digit_is (byte_at s at) d e).0
 
 -- the digits from a place on, over a whole text
 module _ (most : ℕ) (s : Text) (at n : ℕ) where
-  pub digits_none : digit (byte_at s at) ≡ none → repeated (counting most s) (length s) at n ≡ got at n
+  pub digits_none : digit (byte_at s at) ≡ None → repeated (counting most s) (length s) at n ≡ got at n
   digits_none e = repeated_stops (counting most s) (length s) at n (counting_none most s at n e)
 
-  module _ (d : ℕ) (e : digit (byte_at s at) ≡ some d) where
+  module _ (d : ℕ) (e : digit (byte_at s at) ≡ Some d) where
     pub digits_more : n * 10 + d ≤ most
         → repeated (counting most s) (length s) at n ≡ repeated (counting most s) (length s) (at + 1) (n * 10 + d)
     digits_more h =
@@ -72,19 +72,19 @@ module _ (most : ℕ) (s : Text) (at n : ℕ) where
 
 -- a decimal, by its first digit
 module _ (most : ℕ) (s : Text) (at : ℕ) where
-  pub decimal_none : digit (byte_at s at) ≡ none → decimal most s at ≡ bad at
+  pub decimal_none : digit (byte_at s at) ≡ None → decimal most s at ≡ bad at
   unfolding decimal
   decimal_none e = rw (e, decimal)
 
-  pub decimal_past : (d : ℕ) → digit (byte_at s at) ≡ some d → most < d → decimal most s at ≡ bad at
+  pub decimal_past : (d : ℕ) → digit (byte_at s at) ≡ Some d → most < d → decimal most s at ≡ bad at
   unfolding decimal
   decimal_past d e h = rw (e, lt-leb d most h, decimal)
 
-  pub decimal_zero : digit (byte_at s at) ≡ some 0 → decimal most s at ≡ got (at + 1) 0
+  pub decimal_zero : digit (byte_at s at) ≡ Some 0 → decimal most s at ≡ got (at + 1) 0
   unfolding decimal
   decimal_zero e = rw (e, le-leb 0 most (omega arith), decimal)
 
-  pub decimal_more : (d : ℕ) → digit (byte_at s at) ≡ some d → d ≤ most → (d ≡ 0 → ⊥)
+  pub decimal_more : (d : ℕ) → digit (byte_at s at) ≡ Some d → d ≤ most → (d ≡ 0 → ⊥)
       → decimal most s at ≡ repeated (counting most s) (length s) (at + 1) d
   unfolding decimal
   decimal_more d e h n = rw (e, le-leb d most h, ne_eqb d 0 n, decimal)
@@ -94,14 +94,14 @@ pub decimal_moves : (most : ℕ) (s : Text) → Moves (decimal most s)
 decimal_moves most s at p n e = go (digit (byte_at s at)) refl
   where
     go : (o : Option ℕ) → digit (byte_at s at) ≡ o → at < p
-    go none f = absurd (no_got _ _ _ (sym (decimal_none most s at f) ∙ e))
-    go (some d) f = test (leb d most) refl (eqb d 0) refl
+    go None f = absurd (no_got _ _ _ (sym (decimal_none most s at f) ∙ e))
+    go (Some d) f = test (leb d most) refl (eqb d 0) refl
       where
         test : (t : Bool) → leb d most ≡ t → (u : Bool) → eqb d 0 ≡ u → at < p
         test false t u g = absurd (no_got _ _ _ (sym (decimal_past most s at d f (leb-false _ _ t)) ∙ e))
         test true t true g =
             let z = eqb-true d 0 g in
-            let l = same_place _ _ _ _ (sym (decimal_zero most s at (f ∙ ap some z)) ∙ e) in
+            let l = same_place _ _ _ _ (sym (decimal_zero most s at (f ∙ ap Some z)) ∙ e) in
             omega arith
         test true t false g =
             let l =
@@ -110,12 +110,12 @@ decimal_moves most s at p n e = go (digit (byte_at s at)) refl
             omega arith
 
 -- a decimal is at most what it may be
-counting_below : (most : ℕ) (s : Text) (at p n k : ℕ) → n ≤ most → counting most s at n ≡ some (got p k) → k ≤ most
+counting_below : (most : ℕ) (s : Text) (at p n k : ℕ) → n ≤ most → counting most s at n ≡ Some (got p k) → k ≤ most
 counting_below most s at p n k h e = go (digit (byte_at s at)) refl
   where
     go : (o : Option ℕ) → digit (byte_at s at) ≡ o → k ≤ most
-    go none f = let c = counting_none most s at n f in absurd (let z : ◌≡◌ {A = ℕ} 0 1 = cc in omega arith)
-    go (some d) f = test (leb (n * 10 + d) most) refl
+    go None f = let c = counting_none most s at n f in absurd (let z : ◌≡◌ {A = ℕ} 0 1 = cc in omega arith)
+    go (Some d) f = test (leb (n * 10 + d) most) refl
       where
         test : (t : Bool) → leb (n * 10 + d) most ≡ t → k ≤ most
         test true g =
@@ -132,14 +132,14 @@ pub decimal_below : (most : ℕ) (s : Text) (at p n : ℕ) → decimal most s at
 decimal_below most s at p n e = go (digit (byte_at s at)) refl
   where
     go : (o : Option ℕ) → digit (byte_at s at) ≡ o → n ≤ most
-    go none f = absurd (no_got _ _ _ (sym (decimal_none most s at f) ∙ e))
-    go (some d) f = test (leb d most) refl (eqb d 0) refl
+    go None f = absurd (no_got _ _ _ (sym (decimal_none most s at f) ∙ e))
+    go (Some d) f = test (leb d most) refl (eqb d 0) refl
       where
         test : (t : Bool) → leb d most ≡ t → (u : Bool) → eqb d 0 ≡ u → n ≤ most
         test false t u g = absurd (no_got _ _ _ (sym (decimal_past most s at d f (leb-false _ _ t)) ∙ e))
         test true t true g =
             let z = eqb-true d 0 g in
-            let l = same_read _ _ _ _ (sym (decimal_zero most s at (f ∙ ap some z)) ∙ e) in
+            let l = same_read _ _ _ _ (sym (decimal_zero most s at (f ∙ ap Some z)) ∙ e) in
             omega arith
         test true t false g =
             repeated_keeps (counting most s) (λ k. k ≤ most) (counting_below most s) (length s) (at + 1) p d n (leb-true _ _ t)

@@ -1,7 +1,7 @@
 -- How a map of what was read goes past readings that follow one another. Assumes nothing.
+use Rattle.std.specs.Prelude.{Option, None, Some}
 use Prim.Native.Nat.{ℕ, zero, suc, ◌+◌}
 use mathlib.Core.Bool.{Bool, true, false}
-use mathlib.Core.Option.{Option, none, some}
 use mathlib.Core.Path.{◌≡◌, refl, sym, ap, ◌∙◌}
 use lib.Dec.{eqb}
 use lib.ListN.{length}
@@ -78,36 +78,36 @@ respects_ended h s (bad at) = refl
 
 -- a repetition stops, or goes on with what its step gives
 module _ {A : Type 0} (step : ℕ → A → Option (Parsed A)) (more at : ℕ) (a : A) where
-  pub repeated_none : step at a ≡ none → repeated step (suc more) at a ≡ got at a
+  pub repeated_none : step at a ≡ None → repeated step (suc more) at a ≡ got at a
   unfolding repeated
   repeated_none e = rw (e, repeated)
 
-  pub repeated_some : (p : Parsed A) → step at a ≡ some p → repeated step (suc more) at a ≡ next p (repeated step more)
+  pub repeated_some : (p : Parsed A) → step at a ≡ Some p → repeated step (suc more) at a ≡ next p (repeated step more)
   unfolding repeated
   repeated_some p e = rw (e, repeated)
 
 -- items joined by operators: no operator stands at the place, or one does, and the items are "grouped from the left"
 module _ {O A B : Type 0} (operator : ℕ → Option O) (apply : O → B → A → B) (s : Text) (item : ℕ → Parsed A) (at : ℕ) (a : B) where
-  pub joining_none : operator (byte_at s at) ≡ none → joining operator apply s item at a ≡ none
+  pub joining_none : operator (byte_at s at) ≡ None → joining operator apply s item at a ≡ None
   unfolding joining
   joining_none e = rw (e, joining)
 
-  pub joining_some : (o : O) → operator (byte_at s at) ≡ some o → joining operator apply s item at a ≡ some (mapped (apply o a) (item (at + 1)))
+  pub joining_some : (o : O) → operator (byte_at s at) ≡ Some o → joining operator apply s item at a ≡ Some (mapped (apply o a) (item (at + 1)))
   unfolding joining
   joining_some o e = rw (e, joining)
 
 -- a map past a repetition whose steps it respects
 module _ {A B : Type 0} (h : A → B) (step : ℕ → A → Option (Parsed A)) (step' : ℕ → B → Option (Parsed B))
-    (stops : (at : ℕ) (a : A) → step at a ≡ none → step' at (h a) ≡ none)
-    (goes : (at : ℕ) (a : A) (p : Parsed A) → step at a ≡ some p → step' at (h a) ≡ some (mapped h p)) where
+    (stops : (at : ℕ) (a : A) → step at a ≡ None → step' at (h a) ≡ None)
+    (goes : (at : ℕ) (a : A) (p : Parsed A) → step at a ≡ Some p → step' at (h a) ≡ Some (mapped h p)) where
   pub respects_repeated : (more at : ℕ) (a : A) → mapped h (repeated step more at a) ≡ repeated step' more at (h a)
   respects_repeated zero at a = unfold repeated mapped in refl
   respects_repeated (suc more) at a = go (step at a) refl (respects_repeated more)
     where
       go : (o : Option (Parsed A)) → step at a ≡ o → ((at : ℕ) (a : A) → mapped h (repeated step more at a) ≡ repeated step' more at (h a))
           → mapped h (repeated step (suc more) at a) ≡ repeated step' (suc more) at (h a)
-      go none e rest = rw (repeated_none step more at a e, repeated_none step' more at (h a) (stops at a e)) (mapped_got h at a)
-      go (some p) e rest =
+      go None e rest = rw (repeated_none step more at a e, repeated_none step' more at (h a) (stops at a e)) (mapped_got h at a)
+      go (Some p) e rest =
           rw (repeated_some step more at a p e, repeated_some step' more at (h a) (mapped h p) (goes at a p e))
           (respects_next h h p _ _ rest)
 
@@ -115,24 +115,24 @@ module _ {A B : Type 0} (h : A → B) (step : ℕ → A → Option (Parsed A)) (
 module _ {O A A' B B' : Type 0} (h : B → B') (i : A → A') (operator : ℕ → Option O) (f : O → B → A → B) (g : O → B' → A' → B') (s : Text)
     (respects : (o : O) (b : B) (a : A) → h (f o b a) ≡ g o (h b) (i a))
     (item : ℕ → Parsed A) (item' : ℕ → Parsed A') (items : (at : ℕ) → mapped i (item at) ≡ item' at) where
-  stops_alike : (at : ℕ) (b : B) → joining operator f s item at b ≡ none → joining operator g s item' at (h b) ≡ none
+  stops_alike : (at : ℕ) (b : B) → joining operator f s item at b ≡ None → joining operator g s item' at (h b) ≡ None
   stops_alike at b e = go (operator (byte_at s at)) refl
     where
-      go : (o : Option O) → operator (byte_at s at) ≡ o → joining operator g s item' at (h b) ≡ none
-      go none n = joining_none operator g s item' at (h b) n
-      go (some o) n = let c = joining_some operator f s item at b o n in cc
+      go : (o : Option O) → operator (byte_at s at) ≡ o → joining operator g s item' at (h b) ≡ None
+      go None n = joining_none operator g s item' at (h b) n
+      go (Some o) n = let c = joining_some operator f s item at b o n in cc
 
-  goes_alike : (at : ℕ) (b : B) (p : Parsed B) → joining operator f s item at b ≡ some p → joining operator g s item' at (h b) ≡ some (mapped h p)
+  goes_alike : (at : ℕ) (b : B) (p : Parsed B) → joining operator f s item at b ≡ Some p → joining operator g s item' at (h b) ≡ Some (mapped h p)
   goes_alike at b p e = go (operator (byte_at s at)) refl
     where
-      go : (o : Option O) → operator (byte_at s at) ≡ o → joining operator g s item' at (h b) ≡ some (mapped h p)
-      go none n = let c = joining_none operator f s item at b n in cc
-      go (some o) n =
+      go : (o : Option O) → operator (byte_at s at) ≡ o → joining operator g s item' at (h b) ≡ Some (mapped h p)
+      go None n = let c = joining_none operator f s item at b n in cc
+      go (Some o) n =
           let c = joining_some operator f s item at b o n in
           let q : mapped (f o b) (item (at + 1)) ≡ p = cc in
           joining_some operator g s item' at (h b) o n
-          ∙ ap (λ j. some (mapped (g o (h b)) j)) (sym (items (at + 1)))
-          ∙ ap some
+          ∙ ap (λ j. Some (mapped (g o (h b)) j)) (sym (items (at + 1)))
+          ∙ ap Some
           (mapped_mapped (g o (h b)) i (item (at + 1))
           ∙ sym (mapped_twice h (f o b) (λ a. g o (h b) (i a)) (respects o b) (item (at + 1)))
           ∙ ap (mapped h) q)

@@ -1,7 +1,7 @@
 -- What was read, if anything was, has a property: how a property goes past readings that follow one another. Assumes nothing.
+use Rattle.std.specs.Prelude.{Option, None, Some}
 use Prim.Native.Nat.{ℕ, zero, suc, ◌+◌, ◌≤◌}
 use mathlib.Core.Bool.{Bool, true, false}
-use mathlib.Core.Option.{Option, none, some}
 use mathlib.Core.Path.{◌≡◌, refl, sym, subst}
 use lib.Dec.{eqb}
 use lib.ListN.{length}
@@ -82,9 +82,9 @@ module _ {O A B : Type 0} (K : ℕ → B → Type 0) (I : A → Type 0) (P : B �
       go : (o : Option O) → operator (byte_at s at) ≡ o
           → ((at : ℕ) (b : B) → K more b → Gives P (repeated (joining operator apply s item) more at b))
           → Gives P (repeated (joining operator apply s item) (suc more) at b)
-      go none e later =
+      go None e later =
           subst (Gives P) (sym (repeated_none _ more at b (joining_none operator apply s item at b e))) (ends (suc more) b k)
-      go (some o) e later =
+      go (Some o) e later =
           subst (Gives P) (sym (repeated_some _ more at b _ (joining_some operator apply s item at b o e)))
           (gives_then (K more) P _ _ (gives_mapped I (K more) (apply o b) _ (λ a i. joins more o b a k i) (items (at + 1))) later)
 

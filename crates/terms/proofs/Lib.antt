@@ -5,7 +5,6 @@ mod Cases
 pub mod Digits
 pub mod Following
 pub mod Gives
-pub mod Grouping
 pub mod Moving
 pub mod Nesting
 pub mod Onward

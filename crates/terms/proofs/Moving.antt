@@ -1,8 +1,8 @@
 -- What is read always moves on; so enough repetitions are enough, and no reading goes back. Assumes nothing.
+use Rattle.std.specs.Prelude.{Option, None, Some}
 use Prim.Native.Nat.{ℕ, zero, suc, ◌+◌, ◌-◌, ◌≤◌, ◌<◌}
 use mathlib.Core.Bool.{Bool, true, false}
 use mathlib.Core.List.{[], ◌∷◌}
-use mathlib.Core.Option.{Option, none, some}
 use mathlib.Core.Path.{◌≡◌, refl, sym, ap, subst, ◌∙◌}
 use native.Mathlib.Numerals.{add-one}
 use native.Mathlib.Omega.{arith}
@@ -102,22 +102,22 @@ moves_closed b s item m at p a e =
     let f = m at q.0 q.1 q.2 in
     omega arith
 
-module _ {A : Type 0} (step : ℕ → A → Option (Parsed A)) (moves : (at p : ℕ) (a b : A) → step at a ≡ some (got p b) → at < p) where
+module _ {A : Type 0} (step : ℕ → A → Option (Parsed A)) (moves : (at p : ℕ) (a b : A) → step at a ≡ Some (got p b) → at < p) where
   -- a repetition does not go back
   pub repeated_on : (more at p : ℕ) (a b : A) → repeated step more at a ≡ got p b → at ≤ p
   repeated_on zero at p a b e = let f = same_place at p a b (unfold repeated in e) in omega arith
   repeated_on (suc more) at p a b e = go (step at a) refl (repeated_on more)
     where
       go : (o : Option (Parsed A)) → step at a ≡ o → ((at p : ℕ) (a b : A) → repeated step more at a ≡ got p b → at ≤ p) → at ≤ p
-      go none n rest = let f = same_place at p a b (sym (repeated_none step more at a n) ∙ e) in omega arith
-      go (some q) n rest =
+      go None n rest = let f = same_place at p a b (sym (repeated_none step more at a n) ∙ e) in omega arith
+      go (Some q) n rest =
           let f = next_got q (repeated step more) p b (sym (repeated_some step more at a q n) ∙ e) in
           let l = rest f.0 p f.1 b f.3 in
-          let g = moves at f.0 a f.1 (n ∙ ap some f.2) in
+          let g = moves at f.0 a f.1 (n ∙ ap Some f.2) in
           omega arith
 
   -- where the step stops at the end of a text, enough repetitions are enough
-  module _ (end : ℕ) (stops : (at : ℕ) (a : A) → end ≤ at → step at a ≡ none) where
+  module _ (end : ℕ) (stops : (at : ℕ) (a : A) → end ≤ at → step at a ≡ None) where
     stopped : (more at : ℕ) (a : A) → end ≤ at → repeated step more at a ≡ got at a
     stopped zero at a h = unfold repeated in refl
     stopped (suc more) at a h = repeated_none step more at a (stops at a h)
@@ -130,17 +130,17 @@ module _ {A : Type 0} (step : ℕ → A → Option (Parsed A)) (moves : (at p : 
         go : (o : Option (Parsed A)) → step at a ≡ o
             → ((at : ℕ) (a : A) → end ≤ n + at → end ≤ m + at → repeated step n at a ≡ repeated step m at a)
             → repeated step (suc n) at a ≡ repeated step (suc m) at a
-        go none e rest = repeated_none step n at a e ∙ sym (repeated_none step m at a e)
-        go (some q) e rest = repeated_some step n at a q e ∙ onward q e rest ∙ sym (repeated_some step m at a q e)
+        go None e rest = repeated_none step n at a e ∙ sym (repeated_none step m at a e)
+        go (Some q) e rest = repeated_some step n at a q e ∙ onward q e rest ∙ sym (repeated_some step m at a q e)
           where
-            onward : (q : Parsed A) → step at a ≡ some q
+            onward : (q : Parsed A) → step at a ≡ Some q
                 → ((at : ℕ) (a : A) → end ≤ n + at → end ≤ m + at → repeated step n at a ≡ repeated step m at a)
                 → next q (repeated step n) ≡ next q (repeated step m)
             onward (got p b) e rest = let f = moves at p a b e in unfold next in rest p b (omega arith) (omega arith)
             onward (bad p) e rest = unfold next in refl
 
     -- a repetition over a whole text, by what its step gives within it
-    pub repeated_goes : (at p : ℕ) (a b : A) → at < end → step at a ≡ some (got p b) → repeated step end at a ≡ repeated step end p b
+    pub repeated_goes : (at p : ℕ) (a b : A) → at < end → step at a ≡ Some (got p b) → repeated step end at a ≡ repeated step end p b
     repeated_goes at p a b h e =
         let f = moves at p a b e in
         let n : end ≡ suc (end - 1) = omega arith in
@@ -149,14 +149,14 @@ module _ {A : Type 0} (step : ℕ → A → Option (Parsed A)) (moves : (at p : 
         ∙ next_of_got p b (repeated step (end - 1))
         ∙ enough (end - 1) end p b (omega arith) (omega arith)
 
-    pub repeated_fails : (at p : ℕ) (a : A) → at < end → step at a ≡ some (bad p) → repeated step end at a ≡ bad p
+    pub repeated_fails : (at p : ℕ) (a : A) → at < end → step at a ≡ Some (bad p) → repeated step end at a ≡ bad p
     repeated_fails at p a h e =
         let n : end ≡ suc (end - 1) = omega arith in
         ap (λ k. repeated step k at a) n ∙ repeated_some step (end - 1) at a (bad p) e ∙ next_of_bad p (repeated step (end - 1))
 
 -- what each step keeps, a repetition keeps
 pub repeated_keeps : {A : Type 0} (step : ℕ → A → Option (Parsed A)) (Kept : A → Type 0)
-    → ((at p : ℕ) (a b : A) → Kept a → step at a ≡ some (got p b) → Kept b)
+    → ((at p : ℕ) (a b : A) → Kept a → step at a ≡ Some (got p b) → Kept b)
     → (more at p : ℕ) (a b : A) → Kept a → repeated step more at a ≡ got p b → Kept b
 repeated_keeps {A = A} step Kept keeps zero at p a b k e =
     subst Kept (same_read at p a b (unfold repeated in e)) k
@@ -164,24 +164,24 @@ repeated_keeps {A = A} step Kept keeps (suc more) at p a b k e = go (step at a) 
   where
     go : (o : Option (Parsed A)) → step at a ≡ o
         → ((at p : ℕ) (a b : A) → Kept a → repeated step more at a ≡ got p b → Kept b) → Kept b
-    go none n rest = subst Kept (same_read _ _ _ _ (sym (repeated_none step more at a n) ∙ e)) k
-    go (some q) n rest =
+    go None n rest = subst Kept (same_read _ _ _ _ (sym (repeated_none step more at a n) ∙ e)) k
+    go (Some q) n rest =
         let f = next_got q (repeated step more) p b (sym (repeated_some step more at a q n) ∙ e) in
-        rest f.0 p f.1 b (keeps at f.0 a f.1 k (n ∙ ap some f.2)) f.3
+        rest f.0 p f.1 b (keeps at f.0 a f.1 k (n ∙ ap Some f.2)) f.3
 
 -- a repetition whose step stops at once
-pub repeated_stops : {A : Type 0} (step : ℕ → A → Option (Parsed A)) (more at : ℕ) (a : A) → step at a ≡ none → repeated step more at a ≡ got at a
+pub repeated_stops : {A : Type 0} (step : ℕ → A → Option (Parsed A)) (more at : ℕ) (a : A) → step at a ≡ None → repeated step more at a ≡ got at a
 repeated_stops step zero at a e = unfold repeated in refl
 repeated_stops step (suc more) at a e = repeated_none step more at a e
 
 module _ {O A B : Type 0} (operator : ℕ → Option O) (apply : O → B → A → B) (s : Text) (item : ℕ → Parsed A) (m : Moves item) where
   -- one item more moves on
-  pub joining_moves : (at p : ℕ) (a b : B) → joining operator apply s item at a ≡ some (got p b) → at < p
+  pub joining_moves : (at p : ℕ) (a b : B) → joining operator apply s item at a ≡ Some (got p b) → at < p
   joining_moves at p a b e = go (operator (byte_at s at)) refl
     where
       go : (o : Option O) → operator (byte_at s at) ≡ o → at < p
-      go none n = let c = joining_none operator apply s item at a n in absurd (let z : ◌≡◌ {A = ℕ} 0 1 = cc in omega arith)
-      go (some o) n =
+      go None n = let c = joining_none operator apply s item at a n in absurd (let z : ◌≡◌ {A = ℕ} 0 1 = cc in omega arith)
+      go (Some o) n =
           let c = joining_some operator apply s item at a o n in
           let q : mapped (apply o a) (item (at + 1)) ≡ got p b = cc in
           let f = mapped_got_of (apply o a) (item (at + 1)) p b q in
@@ -189,7 +189,7 @@ module _ {O A B : Type 0} (operator : ℕ → Option O) (apply : O → B → A �
           omega arith
 
   -- and stops at the end, where 0 is no operator
-  pub joining_stops : operator 0 ≡ none → (at : ℕ) (a : B) → length s ≤ at → joining operator apply s item at a ≡ none
+  pub joining_stops : operator 0 ≡ None → (at : ℕ) (a : B) → length s ≤ at → joining operator apply s item at a ≡ None
   joining_stops z at a h = joining_none operator apply s item at a (ap operator (past_end s at h) ∙ z)
 
 pub moves_series : {O A : Type 0} (operator : ℕ → Option O) (apply : O → A → A → A) (s : Text) (item : ℕ → Parsed A) → Moves item

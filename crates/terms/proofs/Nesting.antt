@@ -1,15 +1,14 @@
 -- What closes a bracket, what stands in one, and the number that falls at each call of a reader. Assumes nothing.
+use Rattle.std.specs.Prelude.{Result}
 use Prim.Native.Nat.{ℕ, zero, suc, ◌+◌, ◌-◌, ◌*◌, ◌≤◌, ◌<◌}
 use mathlib.Core.List.{[], ◌∷◌}
 use mathlib.Core.Path.{◌≡◌, refl, sym, ap, ◌∙◌}
 use native.Mathlib.Nat.{suc-mul}
 use native.Mathlib.Omega.{arith}
 use borrow.Author.Tests.{eq-eqb, ne_eqb}
-use Rattle.whole.specs.declared.Worked.{Worked}
 use Rattle.terms.specs.declared.Limits.{Limits}
-use Rattle.terms.specs.declared.ReadValue.{ReadValue}
 use Rattle.terms.specs.declared.Start.{Start}
-use Rattle.terms.specs.Vocabulary.Answers.{as_value}
+use Rattle.terms.specs.Vocabulary.Answers.{as_result}
 use Rattle.terms.specs.Bytes.{Text, byte_at}
 use Rattle.terms.specs.Expressions.{Reading, start_of, factor_by, factor}
 use Rattle.terms.specs.Parsed.{Parsed, got, bad, next, mapped, word, closed, opened}
@@ -49,10 +48,10 @@ module _ {A B : Type 0} (answer : Parsed A → B) (b : ℕ) (s : Text) {w q : Pa
     closing_none n = sym (ap answer (c ∙ closed_none b s q p a e (λ g. n (f ∙ g))))
 
 -- a factor, by what it begins with
-pub factor_by_lem : (R : Reading Worked) (lim : Limits) (s : Text) (within : ℕ → Parsed Worked) (at : ℕ) {b b' : Start} {r : ReadValue} → b ≡ start_of (byte_at s at) → b ≡ b'
-    → r ≡ as_value (factor_by R lim s b' within at) → r ≡ as_value (factor R lim s within at)
+pub factor_by_lem : {A : Type 0} (R : Reading A) (lim : Limits) (s : Text) (within : ℕ → Parsed A) (at : ℕ) {b b' : Start} {r : Result (ℕ × A) ℕ} → b ≡ start_of (byte_at s at) → b ≡ b'
+    → r ≡ as_result (factor_by R lim s b' within at) → r ≡ as_result (factor R lim s within at)
 unfolding factor
-factor_by_lem R lim s within at e f g = g ∙ ap (λ x. as_value (factor_by R lim s x within at)) (sym f ∙ e)
+factor_by_lem R lim s within at e f g = g ∙ ap (λ x. as_result (factor_by R lim s x within at)) (sym f ∙ e)
 
 -- no bracket is allowed, or one more is
 module _ {A : Type 0} (b : ℕ) (s : Text) (item : ℕ → ℕ → Parsed A) where

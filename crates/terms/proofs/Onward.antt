@@ -1,19 +1,19 @@
 -- Every reader of terms moves on: what it reads ends after the place that it began at. Assumes nothing.
+use Rattle.std.specs.Prelude.{Result}
 use Prim.Native.Nat.{ℕ, zero, suc, ◌+◌, ◌<◌}
 use Prim.Native.Char.{code}
 use mathlib.Core.Path.{◌≡◌, refl, sym, ap, ◌∙◌}
 use native.Mathlib.Omega.{arith}
 use lib.ListN.{length}
-use Rattle.whole.specs.declared.Worked.{Worked}
 use Rattle.terms.specs.declared.AtomStart.{AtomStart}
 use Rattle.terms.specs.declared.Limits.{Limits}
-use Rattle.terms.specs.declared.ReadValue.{ReadValue}
 use Rattle.terms.specs.declared.Start.{Start}
-use Rattle.terms.specs.Vocabulary.Answers.{as_value}
+use Rattle.terms.specs.Vocabulary.Answers.{as_result}
 use Rattle.terms.specs.Bytes.{Text, bytes, byte_at}
 use Rattle.terms.specs.Expressions.{Reading, largest, start_of, star, sign, comparison, factor_by, factor, product, sum, comparing, expression}
 use Rattle.terms.specs.Guards.{GuardReading, atom_start_of, ampersand, bar, atom_by, atom, conjunction, disjunction, guard}
 use Rattle.terms.specs.Parsed.{Parsed, bad, word, opened}
+use Rattle.terms.specs.Vocabulary.Readers.{bracketed_at, factor_at, product_at, sum_at, atom_at, conjunction_at}
 use Rattle.terms.proofs.Digits.{decimal_moves}
 use Rattle.terms.proofs.Moving.{Moves, moves_bad, moves_mapped, moves_closed, moves_series, word_on}
 use Rattle.terms.proofs.Variables.{variable_moves}
@@ -69,6 +69,20 @@ module _ {A : Type 0} (R : Reading A) (lim : Limits) (s : Text) where
   expression_is zero at = unfold expression opened in refl
   expression_is (suc left) at = unfold expression opened in refl
 
+  -- so does what each reader of the code reads, with so many brackets still allowed
+  module _ (left : ℕ) where
+    moves_bracketed : (b : ℕ) → Moves (bracketed_at R lim s b left)
+    moves_bracketed b = moves_opened b s _ moves_expression left
+
+    pub factors_move : Moves (factor_at R lim s left)
+    factors_move = moves_factor _ (moves_bracketed (code ")"))
+
+    pub products_move : Moves (product_at R lim s left)
+    products_move = moves_product _ (moves_bracketed (code ")"))
+
+    pub sums_move : Moves (sum_at R lim s left)
+    sums_move = moves_sum _ (moves_bracketed (code ")"))
+
 module _ {A G : Type 0} (R : Reading A) (Q : GuardReading A G) (lim : Limits) (s : Text) where
   module _ (test : ℕ → Parsed A) (t : Moves test) (within : ℕ → Parsed G) (m : Moves within) where
     moves_atom_start : (b : AtomStart) → Moves (atom_by R Q lim s b test within)
@@ -105,8 +119,15 @@ module _ {A G : Type 0} (R : Reading A) (Q : GuardReading A G) (lim : Limits) (s
   guard_is zero at = unfold guard opened in refl
   guard_is (suc left) at = unfold guard opened in refl
 
+  module _ (left : ℕ) where
+    pub atoms_move : Moves (atom_at R Q lim s left)
+    atoms_move = moves_atom _ (moves_bracketed R lim s left (code "]")) _ (moves_opened (code ")") s _ moves_guard left)
+
+    pub conjunctions_move : Moves (conjunction_at R Q lim s left)
+    conjunctions_move = moves_conjunction _ (moves_bracketed R lim s left (code "]")) _ (moves_opened (code ")") s _ moves_guard left)
+
 -- an atom, by what it begins with
-pub atom_by_lem : (R : Reading Worked) (Q : GuardReading Worked Worked) (lim : Limits) (s : Text) (test within : ℕ → Parsed Worked) (at : ℕ) {b b' : AtomStart} {r : ReadValue}
-    → b ≡ atom_start_of (byte_at s at) → b ≡ b' → r ≡ as_value (atom_by R Q lim s b' test within at) → r ≡ as_value (atom R Q lim s test within at)
+pub atom_by_lem : {A G : Type 0} (R : Reading A) (Q : GuardReading A G) (lim : Limits) (s : Text) (test : ℕ → Parsed A) (within : ℕ → Parsed G) (at : ℕ) {b b' : AtomStart} {r : Result (ℕ × G) ℕ}
+    → b ≡ atom_start_of (byte_at s at) → b ≡ b' → r ≡ as_result (atom_by R Q lim s b' test within at) → r ≡ as_result (atom R Q lim s test within at)
 unfolding atom
-atom_by_lem R Q lim s test within at e f g = g ∙ ap (λ x. as_value (atom_by R Q lim s x test within at)) (sym f ∙ e)
+atom_by_lem R Q lim s test within at e f g = g ∙ ap (λ x. as_result (atom_by R Q lim s x test within at)) (sym f ∙ e)

@@ -10,8 +10,8 @@ use Rattle.terms.specs.Values
 use Rattle.layout.proofs.Open.{layout_open}
 
 unfoldable pub terms_open : Unit {0}
-unfolding layout_open Answers.as_word Answers.as_number Answers.as_variable Answers.as_value Answers.surroundings Answers.as_operator
-    Answers.grouped_by Answers.no_other Bytes.told Bytes.digit Expressions.among Expressions.comparison Expressions.sign Expressions.star
+unfolding layout_open Answers.as_place Answers.as_result Answers.surroundings
+    Bytes.told Bytes.digit Expressions.among Expressions.comparison Expressions.sign Expressions.star
     Expressions.start_of Expressions.factor_by Expressions.factor Expressions.product Expressions.sum Expressions.comparing
     Expressions.expression Guards.ampersand Guards.bar Guards.atom_start_of Guards.atom_by Guards.atom Guards.conjunction
     Guards.disjunction Guards.guard Leaves.counting Leaves.decimal Leaves.numbered Leaves.variable Parsed.next Parsed.mapped

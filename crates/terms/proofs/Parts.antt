@@ -1,9 +1,9 @@
 -- Reading in a part of a text: a word and a decimal are read there as in the whole, by other places, where what stands behind the part
 -- continues neither. Assumes nothing.
+use Rattle.std.specs.Prelude.{Option, None, Some}
 use Prim.Native.Nat.{ℕ, zero, suc, ◌+◌, ◌-◌, ◌*◌, ◌≤◌, ◌<◌}
 use mathlib.Core.Bool.{Bool, true, false}
 use mathlib.Core.List.{[], ◌∷◌}
-use mathlib.Core.Option.{Option, none, some}
 use mathlib.Core.Path.{◌≡◌, refl, sym, ap, ap₂, ◌∙◌}
 use native.Mathlib.Nat.{add-zero}
 use native.Mathlib.Omega.{arith}
@@ -75,7 +75,7 @@ module _ (s : Text) (b e stop : ℕ) (from : b ≤ e) (within : e < length s) (b
           ∙ sym (ap (shifted b) (word_yes c w part i f))
 
   -- where it is no digit: a digit, digits and a decimal
-  module _ (ends : digit stop ≡ none) where
+  module _ (ends : digit stop ≡ None) where
     digit_part : (i : ℕ) → b + i ≤ e → digit (byte_at s (b + i)) ≡ digit (byte_at part i)
     unfolding digit
     digit_part = same_at digit (sym ends)
@@ -89,10 +89,10 @@ module _ (s : Text) (b e stop : ℕ) (from : b ≤ e) (within : e < length s) (b
         Rest = (k : ℕ) → b + (i + 1) ≤ e → repeated (counting most s) n (b + (i + 1)) k ≡ shifted b (repeated (counting most part) n (i + 1) k)
 
         go : (o : Option ℕ) → digit (byte_at part i) ≡ o → Rest → repeated (counting most s) (suc n) (b + i) k ≡ shifted b (repeated (counting most part) (suc n) i k)
-        go none f rest =
+        go None f rest =
             repeated_none (counting most s) n (b + i) k (counting_none most s (b + i) k (digit_part i h ∙ f))
             ∙ sym (ap (shifted b) (repeated_none (counting most part) n i k (counting_none most part i k f)))
-        go (some d) f rest = test (leb (k * 10 + d) most) refl
+        go (Some d) f rest = test (leb (k * 10 + d) most) refl
           where
             test : (t : Bool) → leb (k * 10 + d) most ≡ t → repeated (counting most s) (suc n) (b + i) k ≡ shifted b (repeated (counting most part) (suc n) i k)
             test true u =
@@ -115,15 +115,15 @@ module _ (s : Text) (b e stop : ℕ) (from : b ≤ e) (within : e < length s) (b
         here = ap (λ i. digit (byte_at s i)) (sym (add-zero b)) ∙ digit_part 0 (omega arith)
 
         go : (o : Option ℕ) → digit (byte_at part 0) ≡ o → decimal most s b ≡ shifted b (decimal most part 0)
-        go none f = decimal_none most s b (here ∙ f) ∙ ap bad (sym (add-zero b)) ∙ sym (ap (shifted b) (decimal_none most part 0 f))
-        go (some d) f = test (leb d most) refl (eqb d 0) refl
+        go None f = decimal_none most s b (here ∙ f) ∙ ap bad (sym (add-zero b)) ∙ sym (ap (shifted b) (decimal_none most part 0 f))
+        go (Some d) f = test (leb d most) refl (eqb d 0) refl
           where
             test : (t : Bool) → leb d most ≡ t → (u : Bool) → eqb d 0 ≡ u → decimal most s b ≡ shifted b (decimal most part 0)
             test false t u v =
                 decimal_past most s b d (here ∙ f) (leb-false _ _ t) ∙ ap bad (sym (add-zero b)) ∙ sym (ap (shifted b) (decimal_past most part 0 d f (leb-false _ _ t)))
             test true t true v =
                 let z = eqb-true d 0 v in
-                decimal_zero most s b (here ∙ f ∙ ap some z) ∙ sym (ap (shifted b) (decimal_zero most part 0 (f ∙ ap some z)))
+                decimal_zero most s b (here ∙ f ∙ ap Some z) ∙ sym (ap (shifted b) (decimal_zero most part 0 (f ∙ ap Some z)))
             test true t false v =
                 decimal_more most s b d (here ∙ f) (leb-true _ _ t) (eqb-false _ _ v)
                 ∙ digits_part most (length s) 1 d (found_at 0 (omega arith) (digit_is (byte_at part 0) d f).0)

@@ -1,9 +1,9 @@
 -- Whatever expression or guard is read, its variables are below their limits and its decimals in range; first of any property that the parts
 -- of a reading keep. Assumes nothing.
+use Rattle.std.specs.Prelude.{Option, None, Some}
 use Prim.Native.Nat.{ℕ, zero, suc, ◌+◌, ◌≤◌, ◌<◌}
 use Prim.Native.Char.{code}
 use mathlib.Core.Bool.{Bool, true, false}
-use mathlib.Core.Option.{Option, none, some}
 use mathlib.Core.Path.{◌≡◌, refl}
 use borrow.Author.Tests.{ltb-true}
 use lib.Dec.{ltb, eqb}
@@ -35,11 +35,11 @@ gives_numbered limit s at = go (ltb 0 limit) (digit (byte_at s (at + 1)))
 
     go : (t : Bool) (o : Option ℕ) → Gives (λ n. n < limit) (elim t [
       | false ↦ bad at
-      | true ↦ elim o [ none ↦ bad (at + 1) | some d ↦ elim (ltb d limit) [ true ↦ got (at + 2) d | false ↦ bad at ] ]
+      | true ↦ elim o [ None ↦ bad (at + 1) | Some d ↦ elim (ltb d limit) [ true ↦ got (at + 2) d | false ↦ bad at ] ]
     ])
     go false o = tt
-    go true none = tt
-    go true (some d) = below d (ltb d limit) refl
+    go true None = tt
+    go true (Some d) = below d (ltb d limit) refl
 
 -- a variable is below its limit
 pub gives_variable : (lim : Limits) (s : Text) (at : ℕ) → Gives (VariableWithin lim) (variable lim s at)

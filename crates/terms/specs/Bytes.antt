@@ -1,8 +1,7 @@
 -- Bytes of a text: what stands at a place, a text literal as its bytes, digits. Assumes nothing.
-use Rattle.std.specs.Prelude.{ℕ, ◌-◌, true, false, ◌&&◌, List, [], ◌∷◌, leb, eqb, get_or}
+use Rattle.std.specs.Prelude.{ℕ, ◌-◌, true, false, ◌&&◌, List, [], ◌∷◌, leb, eqb, get_or, Option, None, Some}
 use Prim.Native.Char.{code}
 use Prim.Native.String as Literal
-use Rattle.std.proofs.Math.Option.{Option, none, some}
 
 abbrev pub Text : Type 0
 Text = List ℕ
@@ -23,4 +22,4 @@ told (row ∷ rows) other b = elim (eqb b row.0) [ true ↦ row.1 | false ↦ to
 
 -- a byte as a digit, or none
 unfoldable pub digit : ℕ → Option ℕ
-digit b = elim (leb (code "0") b && leb b (code "9")) [ true ↦ some (b - code "0") | false ↦ none ]
+digit b = elim (leb (code "0") b && leb b (code "9")) [ true ↦ Some (b - code "0") | false ↦ None ]

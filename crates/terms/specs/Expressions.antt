@@ -1,7 +1,6 @@
 -- The grammar of expressions, over any reading. Assumes nothing.
-use Rattle.std.specs.Prelude.{ℕ, zero, suc, ◌+◌, true, false, List, [], ◌∷◌, eqb, length}
+use Rattle.std.specs.Prelude.{ℕ, zero, suc, ◌+◌, true, false, List, [], ◌∷◌, eqb, length, Option, None, Some}
 use Prim.Native.Char.{code}
-use Rattle.std.proofs.Math.Option.{Option, none, some}
 use Rattle.whole.specs.declared.Operator.{Operator}
 use Rattle.whole.specs.declared.Operator.TheVariants.{Plus, Minus, Times, Less, Equal}
 use Rattle.terms.specs.declared.Start.{Start}
@@ -29,7 +28,7 @@ pub record Reading (A : Type 0) : Type 0 where
 
 -- one of two bytes, each with its operator
 unfoldable pub among : ℕ → Operator → ℕ → Operator → ℕ → Option Operator
-among first o second p b = elim (eqb b first) [ true ↦ some o | false ↦ elim (eqb b second) [ true ↦ some p | false ↦ none ] ]
+among first o second p b = elim (eqb b first) [ true ↦ Some o | false ↦ elim (eqb b second) [ true ↦ Some p | false ↦ None ] ]
 
 -- "two sums joined by one `<` or `=`"
 unfoldable pub comparison : ℕ → Option Operator
@@ -41,7 +40,7 @@ sign = among (code "+") Plus (code "-") Minus
 
 -- "factors joined by `*`"
 unfoldable pub star : ℕ → Option Operator
-star b = elim (eqb b (code "*")) [ true ↦ some Times | false ↦ none ]
+star b = elim (eqb b (code "*")) [ true ↦ Some Times | false ↦ None ]
 
 -- "A factor is a decimal 0..2147483647, a variable, `self`, `caller`, or an expression in round brackets": its first byte tells which
 abbrev pub starts : List (ℕ × Start)
@@ -49,7 +48,7 @@ starts =
     (code "s", Start.Itself) ∷ (code "c", Start.Caller) ∷ (code "(", Start.Opening) ∷ (code "a", Start.Variable) ∷ (code "v", Start.Variable) ∷ []
 
 unfoldable pub start_of : ℕ → Start
-start_of b = elim (digit b) [ some d ↦ Start.Decimal | none ↦ told starts Start.Nothing b ]
+start_of b = elim (digit b) [ Some d ↦ Start.Decimal | None ↦ told starts Start.Nothing b ]
 
 module _ {A : Type 0} (R : Reading A) (lim : Limits) (s : Text) where
   -- a factor by its start, where `inside` reads what stands at an opening bracket

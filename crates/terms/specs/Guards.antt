@@ -1,7 +1,6 @@
 -- The grammar of guards, over any reading of guards and of the expressions in them. Assumes nothing.
-use Rattle.std.specs.Prelude.{ℕ, zero, suc, ◌+◌, true, false, List, [], ◌∷◌, eqb, length}
+use Rattle.std.specs.Prelude.{ℕ, zero, suc, ◌+◌, true, false, List, [], ◌∷◌, eqb, length, Option, None, Some}
 use Prim.Native.Char.{code}
-use Rattle.std.proofs.Math.Option.{Option, none, some}
 use Rattle.terms.specs.declared.AtomStart.{AtomStart}
 use Rattle.terms.specs.declared.Junction.{Junction}
 use Rattle.terms.specs.declared.Junction.TheVariants.{Both, Either}
@@ -20,10 +19,10 @@ pub record GuardReading (A G : Type 0) : Type 0 where
   pub join : Junction → G → G → G
 
 unfoldable pub ampersand : ℕ → Option Junction
-ampersand b = elim (eqb b (code "&")) [ true ↦ some Both | false ↦ none ]
+ampersand b = elim (eqb b (code "&")) [ true ↦ Some Both | false ↦ None ]
 
 unfoldable pub bar : ℕ → Option Junction
-bar b = elim (eqb b (code "|")) [ true ↦ some Either | false ↦ none ]
+bar b = elim (eqb b (code "|")) [ true ↦ Some Either | false ↦ None ]
 
 -- "an atom is `wait`, a variable followed by `?`, an expression in square brackets, or a guard in round brackets": its first byte tells
 abbrev pub atom_starts : List (ℕ × AtomStart)

@@ -1,7 +1,6 @@
 -- Decimals and variables. Assumes nothing.
-use Rattle.std.specs.Prelude.{ℕ, ◌+◌, ◌*◌, true, false, leb, ltb, eqb, length}
+use Rattle.std.specs.Prelude.{ℕ, ◌+◌, ◌*◌, true, false, leb, ltb, eqb, length, Option, None, Some}
 use Prim.Native.Char.{code}
-use Rattle.std.proofs.Math.Option.{Option, none, some}
 use Rattle.terms.specs.Bytes.{Text, byte_at, digit}
 use Rattle.terms.specs.Parsed.{Parsed, got, bad, mapped, repeated}
 use Rattle.terms.specs.declared.Limits.{Limits}
@@ -11,15 +10,15 @@ use Rattle.terms.specs.declared.Variable.TheVariants.{Attribute, Local}
 -- one digit more, as long as the number is at most `most`: the digit that takes it past that has no valid continuation
 unfoldable pub counting : ℕ → Text → ℕ → ℕ → Option (Parsed ℕ)
 counting most s at n = elim (digit (byte_at s at)) [
-  | none ↦ none
-  | some d ↦ some (elim (leb (n * 10 + d) most) [ true ↦ got (at + 1) (n * 10 + d) | false ↦ bad at ])
+  | None ↦ None
+  | Some d ↦ Some (elim (leb (n * 10 + d) most) [ true ↦ got (at + 1) (n * 10 + d) | false ↦ bad at ])
 ]
 
 -- "A decimal has no leading zero, except 0 itself." A decimal from 0 to `most`
 unfoldable pub decimal : ℕ → Text → ℕ → Parsed ℕ
 decimal most s at = elim (digit (byte_at s at)) [
-  | none ↦ bad at
-  | some d ↦ elim (leb d most) [
+  | None ↦ bad at
+  | Some d ↦ elim (leb d most) [
     | true ↦ elim (eqb d 0) [ true ↦ got (at + 1) 0 | false ↦ repeated (counting most s) (length s) (at + 1) d ]
     | false ↦ bad at
   ]
@@ -30,8 +29,8 @@ unfoldable pub numbered : ℕ → Text → ℕ → Parsed ℕ
 numbered limit s at = elim (ltb 0 limit) [
   | false ↦ bad at
   | true ↦ elim (digit (byte_at s (at + 1))) [
-    | none ↦ bad (at + 1)
-    | some d ↦ elim (ltb d limit) [ true ↦ got (at + 2) d | false ↦ bad at ]
+    | None ↦ bad (at + 1)
+    | Some d ↦ elim (ltb d limit) [ true ↦ got (at + 2) d | false ↦ bad at ]
   ]
 ]
 

@@ -1,7 +1,6 @@
 -- What reading at a place gives, and how readings follow one another. A refusal carries its place: the first byte from which no
 -- continuation is valid. Assumes nothing.
-use Rattle.std.specs.Prelude.{ℕ, zero, suc, ◌+◌, true, false, [], ◌∷◌, eqb, length}
-use Rattle.std.proofs.Math.Option.{Option, none, some}
+use Rattle.std.specs.Prelude.{ℕ, zero, suc, ◌+◌, true, false, [], ◌∷◌, eqb, length, Option, None, Some}
 use Rattle.terms.specs.Bytes.{Text, byte_at}
 
 -- `got at a`: a was read, and the reading ended at a place. `bad at`: nothing valid goes on from a place
@@ -41,13 +40,13 @@ opened b s item (suc left) at = closed b s (item left (at + 1))
 -- as long as a step goes on from a place, at most so many times: what the step makes of what was read so far
 unfoldable pub repeated : {A : Type 0} → (ℕ → A → Option (Parsed A)) → ℕ → ℕ → A → Parsed A
 repeated step zero at a = got at a
-repeated step (suc more) at a = elim (step at a) [ none ↦ got at a | some p ↦ next p (repeated step more) ]
+repeated step (suc more) at a = elim (step at a) [ None ↦ got at a | Some p ↦ next p (repeated step more) ]
 
 -- one item more, behind a byte that is an operator, "grouped from the left"
 unfoldable pub joining : {O A B : Type 0} → (ℕ → Option O) → (O → B → A → B) → Text → (ℕ → Parsed A) → ℕ → B → Option (Parsed B)
 joining operator apply s item at b = elim (operator (byte_at s at)) [
-  | none ↦ none
-  | some o ↦ some (mapped (apply o b) (item (at + 1)))
+  | None ↦ None
+  | Some o ↦ Some (mapped (apply o b) (item (at + 1)))
 ]
 
 -- items joined by operators, with at most so many after the first

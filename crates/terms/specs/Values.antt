@@ -1,9 +1,6 @@
 -- The reading *values*: what an expression and a guard give where a call performs them. Assumes nothing.
-use Rattle.std.specs.Prelude.{ℕ, Bool, true, false, ◌&&◌, ◌||◌, ℤ, pos}
-use Rattle.std.proofs.Math.Option.{none, some}
-use Rattle.whole.specs.declared.Worked.{Worked}
-use Rattle.whole.specs.declared.Worked.TheVariants.{Value, OutOfRange}
-use Rattle.whole.specs.Whole.{truth, is_true, applied, eq_z}
+use Rattle.std.specs.Prelude.{ℕ, Bool, true, false, ◌&&◌, ◌||◌, ℤ, pos, None, Some}
+use Rattle.whole.specs.Whole.{Worked, truth, is_true, applied, eq_z}
 use Rattle.layout.specs.Layout.{Cells, of_object, of_call, caller, cleared, attribute, local}
 use Rattle.layout.specs.Stages.{reply_for}
 use Rattle.terms.specs.declared.Variable.{Variable}
@@ -27,10 +24,10 @@ held e (Local i) = of_call e.cells e.label (local i)
 
 abbrev pub values : Surroundings → Reading Worked
 values e = record {
-  number = λ n. Value (pos n);
-  variable = λ x. Value (held e x);
-  self = Value (pos e.object);
-  caller = Value (of_call e.cells e.label caller);
+  number = λ n. Some (pos n);
+  variable = λ x. Some (held e x);
+  self = Some (pos e.object);
+  caller = Some (of_call e.cells e.label caller);
   apply = applied;
 }
 
@@ -40,12 +37,12 @@ is_cleared e = eq_z (of_call e.cells e.label cleared) (pos 1)
 
 -- "`X?` is true as for `get`, but takes nothing"
 unfoldable pub is_replied : Surroundings → Variable → Bool
-is_replied e x = elim (reply_for e.cells e.object (held e x)) [ none ↦ false | some l ↦ true ]
+is_replied e x = elim (reply_for e.cells e.object (held e x)) [ None ↦ false | Some l ↦ true ]
 
 -- an expression as an atom: "An expression is true when not 0."
 unfoldable pub tested : Worked → Worked
-tested (Value z) = Value (truth (is_true z))
-tested OutOfRange = OutOfRange
+tested (Some z) = Some (truth (is_true z))
+tested None = None
 
 unfoldable pub junction : Junction → Bool → Bool → Bool
 junction Both p q = p && q
@@ -53,16 +50,16 @@ junction Either p q = p || q
 
 -- two guards joined by `&` or `|`. "All atoms are worked out."
 unfoldable pub joined : Junction → Worked → Worked → Worked
-joined j (Value x) (Value y) = Value (truth (junction j (is_true x) (is_true y)))
-joined j (Value x) OutOfRange = OutOfRange
-joined j OutOfRange (Value y) = OutOfRange
-joined j OutOfRange OutOfRange = OutOfRange
+joined j (Some x) (Some y) = Some (truth (junction j (is_true x) (is_true y)))
+joined j (Some x) None = None
+joined j None (Some y) = None
+joined j None None = None
 
 -- a guard gives 1 where it is enabled and 0 where it is not, or is out of range
 abbrev pub guard_values : Surroundings → GuardReading Worked Worked
 guard_values e = record {
-  wait = Value (truth (is_cleared e));
-  reply = λ x. Value (truth (is_replied e x));
+  wait = Some (truth (is_cleared e));
+  reply = λ x. Some (truth (is_replied e x));
   test = tested;
   join = joined;
 }

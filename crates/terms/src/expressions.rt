@@ -1,18 +1,15 @@
 // Expression, sum, product and factor readers, which call one another: the count of brackets still allowed falls, then the length left.
-ghost use Rattle.std.specs.Prelude.{◌≡◌, ◌<◌, pos, length};
-ghost use Rattle.whole.specs.declared.Worked.TheVariants.{Value};
-ghost use Rattle.terms.specs.Vocabulary.Answers.{as_value, as_operator, grouped_by, no_other, surroundings};
-ghost use Rattle.terms.specs.Bytes.{bytes, byte_at};
+ghost use Rattle.std.specs.Prelude.{◌≡◌, ◌<◌, length};
+ghost use Rattle.terms.specs.Vocabulary.Answers.{as_result};
+ghost use Rattle.terms.specs.Bytes.{byte_at};
 ghost use Rattle.terms.specs.Expressions as Expressions;
 ghost use Rattle.terms.specs.Leaves as Leaves;
 ghost use Rattle.terms.specs.Parsed.{mapped, word};
 ghost use Rattle.terms.specs.Vocabulary.Readers as Readers;
-ghost use Rattle.terms.specs.Values as Values;
 
-use crate::{
-    Around, OperatorFound, ReadNumber, ReadValue, ReadVariable, ReadWord, Start, leaves, values,
-};
-use whole::{Operator, Worked};
+use crate::readings::{Reading, Values};
+use crate::{Around, Limits, Parsed, Start, leaves};
+use whole::Operator;
 
 // "a decimal 0..2147483647"
 const LARGEST: u32 = 2147483647;
@@ -20,76 +17,47 @@ const LARGEST: u32 = 2147483647;
 // "At most 8 brackets are open at once."
 pub const BRACKETS: usize = 8;
 
-// One of two bytes, each with its operator.
-#[tactic(auto, unfolding(crate::specs::Expressions::among, crate::specs::Vocabulary::Answers::as_operator))]
-fn among(first: u8, o: Operator, second: u8, p: Operator, b: u8) -> OperatorFound
-    ensures { result ≡ as_operator (Expressions.among first o second p b) }
+// "factors joined by `*`"
+#[tactic(auto, unfolding(crate::specs::Expressions::star))]
+fn star(b: u8) -> Option<Operator>
+    ensures { result ≡ Expressions.star b }
 {
-    if b == first {
-        return OperatorFound::Is(o);
+    match b {
+        b'*' => Some(Operator::Times),
+        _ => None,
     }
-    if b == second {
-        return OperatorFound::Is(p);
-    }
-    OperatorFound::Nothing
 }
 
 // "products joined by `+` or `-`"
-#[tactic(auto, unfolding(crate::specs::Expressions::sign, crate::specs::Vocabulary::Answers::as_operator))]
-fn sign_at(s: &[u8], at: usize) -> OperatorFound
-    ensures { result ≡ as_operator (Expressions.sign (byte_at s.now at)) }
+#[tactic(auto, unfolding(crate::specs::Expressions::among, crate::specs::Expressions::sign))]
+fn sign(b: u8) -> Option<Operator>
+    ensures { result ≡ Expressions.sign b }
 {
-    among(
-        b'+',
-        Operator::Plus,
-        b'-',
-        Operator::Minus,
-        leaves::byte_at(s, at),
-    )
-}
-
-// "two sums joined by one `<` or `=`"
-#[tactic(auto, unfolding(crate::specs::Expressions::comparison, crate::specs::Vocabulary::Answers::as_operator))]
-fn comparison_at(s: &[u8], at: usize) -> OperatorFound
-    ensures { result ≡ as_operator (Expressions.comparison (byte_at s.now at)) }
-{
-    among(
-        b'<',
-        Operator::Less,
-        b'=',
-        Operator::Equal,
-        leaves::byte_at(s, at),
-    )
-}
-
-// The same after a sum, by the comparison before it: after one there is no other.
-#[tactic(auto, unfolding(crate::specs::Expressions::comparison, crate::specs::Vocabulary::Answers::as_operator, crate::specs::Vocabulary::Answers::no_other))]
-fn comparison_after(by: OperatorFound, s: &[u8], at: usize) -> OperatorFound
-    ensures { result ≡ as_operator (no_other by (Expressions.comparison (byte_at s.now at))) }
-{
-    match by {
-        OperatorFound::Nothing => comparison_at(s, at),
-        OperatorFound::Is(_) => OperatorFound::Nothing,
+    match b {
+        b'+' => Some(Operator::Plus),
+        b'-' => Some(Operator::Minus),
+        _ => None,
     }
 }
 
-// "grouped from the left": what was read so far and one item more, by the operator between them. Before the first item there is none.
-#[tactic(auto, unfolding(crate::specs::Vocabulary::Answers::grouped_by))]
-fn grouped(by: OperatorFound, a: Worked, b: Worked) -> Worked
-    ensures { result ≡ grouped_by by a b }
+// "two sums joined by one `<` or `=`"
+#[tactic(auto, unfolding(crate::specs::Expressions::among, crate::specs::Expressions::comparison))]
+fn comparison(b: u8) -> Option<Operator>
+    ensures { result ≡ Expressions.comparison b }
 {
-    match by {
-        OperatorFound::Nothing => b,
-        OperatorFound::Is(o) => whole::applied(o, a, b),
+    match b {
+        b'<' => Some(Operator::Less),
+        b'=' => Some(Operator::Equal),
+        _ => None,
     }
 }
 
 // What a factor begins with.
 #[tactic(auto, unfolding(crate::specs::Bytes::digit, crate::specs::Bytes::told, crate::specs::Expressions::start_of))]
-fn start_at(s: &[u8], at: usize) -> Start
-    ensures { result ≡ Expressions.start_of (byte_at s.now at) }
+fn start(b: u8) -> Start
+    ensures { result ≡ Expressions.start_of b }
 {
-    match leaves::byte_at(s, at) {
+    match b {
         b'0'..=b'9' => Start::Decimal,
         b's' => Start::Itself,
         b'c' => Start::Caller,
@@ -99,45 +67,144 @@ fn start_at(s: &[u8], at: usize) -> Start
     }
 }
 
-// A decimal as a factor.
-#[tactic(auto, using(crate::proofs::Answers::answer_bad, crate::proofs::Answers::answer_got, crate::proofs::Answers::number_bad, crate::proofs::Answers::number_got, crate::proofs::Digits::decimal_below))]
-fn number(s: &[u8], at: usize) -> ReadValue
-    ensures { result ≡ as_value (mapped (λ n. Value (pos n)) (Leaves.decimal Expressions.largest s.now at)) }
-{
-    match leaves::decimal(LARGEST, s, at) {
-        ReadNumber::Got(p, n) => ReadValue::Got(p, Worked::Value(n as i32)),
-        ReadNumber::Bad(p) => ReadValue::Bad(p),
-    }
-}
-
-// A variable as a factor.
-#[tactic(auto, using(crate::proofs::Answers::answer_bad, crate::proofs::Answers::answer_got, crate::proofs::Answers::variable_bad, crate::proofs::Answers::variable_got, whole::proofs::Ranges::handed))]
-fn variable(s: &[u8], at: usize, cells: &[i32], around: Around) -> ReadValue
-    ensures { result ≡ as_value (mapped (λ x. Value (Values.held (surroundings cells.now around.here) x)) (Leaves.variable around.limits s.now at)) }
-{
-    match leaves::variable(around.limits, s, at) {
-        ReadVariable::Got(p, x) => ReadValue::Got(
-            p,
-            Worked::Value(values::held(cells, around.here, x)),
-        ),
-        ReadVariable::Bad(p) => ReadValue::Bad(p),
-    }
-}
-
-// A word as a factor, with its value.
+/// A word, with what it stands for.
 #[tactic(auto, using(crate::proofs::Answers::answer_bad, crate::proofs::Answers::answer_got, crate::proofs::Answers::word_bad, crate::proofs::Answers::word_got))]
-pub fn named(w: &[u8], value: Worked, s: &[u8], at: usize) -> ReadValue
+pub fn named<T: Copy>(w: &[u8], value: T, s: &[u8], at: usize) -> Parsed<T>
     requires { at < length s.now }
-    ensures { result ≡ as_value (mapped (λ _. value) (word w.now s.now at)) }
+    ensures { result ≡ as_result (mapped (λ _. value) (word w.now s.now at)) }
 {
-    match leaves::word(w, s, at) {
-        ReadWord::Got(p) => ReadValue::Got(p, value),
-        ReadWord::Bad(p) => ReadValue::Bad(p),
+    let p = leaves::word(w, s, at)?;
+    Ok((p, value))
+}
+
+/// What reads a text by a reading: what its variables are below, and what each part gives.
+#[derive(Clone, Copy)]
+pub struct Reader<'t, R> {
+    pub text: &'t [u8],
+    pub limits: Limits,
+    pub reading: R,
+}
+
+impl<'t, R: Reading> Reader<'t, R> {
+    // A decimal as a factor.
+    #[tactic(auto, using(crate::proofs::Answers::answer_bad, crate::proofs::Answers::answer_got, crate::proofs::Answers::parsed_bad, crate::proofs::Answers::parsed_got, crate::proofs::Digits::decimal_below))]
+    fn number(&self, at: usize) -> Parsed<R::Value>
+        ensures { result ≡ as_result (mapped (R.operations self.now.reading).number (Leaves.decimal Expressions.largest self.now.text.now at)) }
+    {
+        let (p, n) = leaves::decimal(LARGEST, self.text, at)?;
+        Ok((p, self.reading.number(n)))
+    }
+
+    // A variable as a factor.
+    #[tactic(auto, using(crate::proofs::Answers::answer_bad, crate::proofs::Answers::answer_got, crate::proofs::Answers::result_bad, crate::proofs::Answers::result_got))]
+    fn variable(&self, at: usize) -> Parsed<R::Value>
+        ensures { result ≡ as_result (mapped (R.operations self.now.reading).variable (Leaves.variable self.now.limits self.now.text.now at)) }
+    {
+        let (p, x) = leaves::variable(self.limits, self.text, at)?;
+        Ok((p, self.reading.variable(x)))
+    }
+
+    /// An expression in brackets, from the opening one on, by the byte that closes them.
+    #[cycle(bracketed_expression_factor_product_sum)]
+    pub fn bracketed(&self, at: usize, left: usize, close: u8) -> Parsed<R::Value>
+        requires { (at < length self.now.text.now) × (0 < close) }
+        ensures { result ≡ as_result (Readers.bracketed_at (R.operations self.now.reading) self.now.limits self.now.text.now close left at) }
+    {
+        if left == 0 {
+            return Err(at);
+        }
+        let (p, a) = self.expression(at + 1, left - 1)?;
+        if leaves::byte_at(self.text, p) == close {
+            Ok((p + 1, a))
+        } else {
+            Err(p)
+        }
+    }
+
+    // "A factor is a decimal 0..2147483647, a variable, `self`, `caller`, or an expression in round brackets." Inlined, as products and sums
+    // are: without that reading takes 1.3 to 1.8 times the instructions.
+    #[inline(always)]
+    #[cycle(bracketed_expression_factor_product_sum)]
+    fn factor(&self, at: usize, left: usize) -> Parsed<R::Value>
+        ensures { result ≡ as_result (Readers.factor_at (R.operations self.now.reading) self.now.limits self.now.text.now left at) }
+    {
+        match start(leaves::byte_at(self.text, at)) {
+            Start::Decimal => self.number(at),
+            Start::Variable => self.variable(at),
+            Start::Itself => named(b"self", self.reading.itself(), self.text, at),
+            Start::Caller => named(b"caller", self.reading.caller(), self.text, at),
+            Start::Opening => self.bracketed(at, left, b')'),
+            Start::Nothing => Err(at),
+        }
+    }
+
+    // One reader for the joined items of a product, a sum, a conjunction and a guard is no plainer: it takes the item's reader as a closure,
+    // and a closure in a cycle of calls needs clauses of its own, which are longer than the loop.
+    //
+    // "a product is factors joined by `*`"
+    #[inline(always)]
+    #[cycle(bracketed_expression_factor_product_sum)]
+    fn product(&self, at: usize, left: usize) -> Parsed<R::Value>
+        ensures { result ≡ as_result (Readers.product_at (R.operations self.now.reading) self.now.limits self.now.text.now left at) }
+    {
+        let (mut end, mut value) = self.factor(at, left)?;
+        while let Some(o) = star(leaves::byte_at(self.text, end)) {
+            let (p, b) = self.factor(end + 1, left)?;
+            value = self.reading.apply(o, value, b);
+            end = p;
+        }
+        Ok((end, value))
+    }
+
+    // "A sum is products joined by `+` or `-`"
+    #[inline(always)]
+    #[cycle(bracketed_expression_factor_product_sum)]
+    fn sum(&self, at: usize, left: usize) -> Parsed<R::Value>
+        ensures { result ≡ as_result (Readers.sum_at (R.operations self.now.reading) self.now.limits self.now.text.now left at) }
+    {
+        let (mut end, mut value) = self.product(at, left)?;
+        while let Some(o) = sign(leaves::byte_at(self.text, end)) {
+            let (p, b) = self.product(end + 1, left)?;
+            value = self.reading.apply(o, value, b);
+            end = p;
+        }
+        Ok((end, value))
+    }
+
+    /// "Expression: a sum, or two sums joined by one `<` or `=`", with so many brackets still allowed.
+    #[cycle(bracketed_expression_factor_product_sum)]
+    pub fn expression(&self, at: usize, left: usize) -> Parsed<R::Value>
+        ensures { result ≡ as_result (Expressions.expression (R.operations self.now.reading) self.now.limits self.now.text.now left at) }
+    {
+        let (p, a) = self.sum(at, left)?;
+        match comparison(leaves::byte_at(self.text, p)) {
+            None => Ok((p, a)),
+            Some(o) => {
+                let (q, b) = self.sum(p + 1, left)?;
+                Ok((q, self.reading.apply(o, a, b)))
+            }
+        }
     }
 }
 
-// An expression in brackets, from the opening one on, by the byte that closes them.
-#[cycle(bracketed_expression_factor_product_sum)]
+impl<'t> Reader<'t, Values<'t>> {
+    // What reads a text for what its terms are worth in some cells.
+    pub(crate) fn of_values(text: &'t [u8], cells: &'t [i32], around: Around) -> Self
+        ensures text { result.text.now ≡ text.now }
+        ensures limits { result.limits ≡ around.limits }
+        ensures cells { result.reading.cells.now ≡ cells.now }
+        ensures here { result.reading.here ≡ around.here }
+    {
+        let here = around.here;
+        Reader {
+            text,
+            limits: around.limits,
+            reading: Values { cells, here },
+        }
+    }
+}
+
+/// An expression in brackets, from the opening one on, by the byte that closes them: its value.
 pub fn bracketed(
     s: &[u8],
     at: usize,
@@ -145,109 +212,22 @@ pub fn bracketed(
     around: Around,
     left: usize,
     close: u8,
-) -> ReadValue
+) -> Parsed<Option<i32>>
     requires { (at < length s.now) × (0 < close) }
-    ensures { result ≡ as_value (Readers.inside_read cells.now around s.now close left at) }
+    ensures { result ≡ as_result (Readers.inside_read cells.now around s.now close left at) }
 {
-    if left == 0 {
-        return ReadValue::Bad(at);
-    }
-    match expression(s, at + 1, cells, around, left - 1) {
-        ReadValue::Bad(p) => ReadValue::Bad(p),
-        ReadValue::Got(p, a) => {
-            if leaves::byte_at(s, p) == close {
-                ReadValue::Got(p + 1, a)
-            } else {
-                ReadValue::Bad(p)
-            }
-        }
-    }
+    Reader::of_values(s, cells, around).bracketed(at, left, close)
 }
 
-// "A factor is a decimal 0..2147483647, a variable, `self`, `caller`, or an expression in round brackets."
-#[cycle(bracketed_expression_factor_product_sum)]
-fn factor(s: &[u8], at: usize, cells: &[i32], around: Around, left: usize) -> ReadValue
-    ensures { result ≡ as_value (Readers.factor_read cells.now around s.now left at) }
+/// An expression, with so many brackets still allowed: its value.
+pub fn expression(
+    s: &[u8],
+    at: usize,
+    cells: &[i32],
+    around: Around,
+    left: usize,
+) -> Parsed<Option<i32>>
+    ensures { result ≡ as_result (Readers.expression_read cells.now around s.now left at) }
 {
-    match start_at(s, at) {
-        Start::Decimal => number(s, at),
-        Start::Variable => variable(s, at, cells, around),
-        Start::Itself => named(b"self", values::itself(around.here), s, at),
-        Start::Caller => named(b"caller", values::caller(cells, around.here), s, at),
-        Start::Opening => bracketed(s, at, cells, around, left, b')'),
-        Start::Nothing => ReadValue::Bad(at),
-    }
-}
-
-// "a product is factors joined by `*`"
-#[cycle(bracketed_expression_factor_product_sum)]
-fn product(s: &[u8], at: usize, cells: &[i32], around: Around, left: usize) -> ReadValue
-    ensures { result ≡ as_value (Readers.product_read cells.now around s.now left at) }
-{
-    let mut begin = at;
-    let mut value = Worked::Value(0);
-    let mut by = OperatorFound::Nothing;
-    loop {
-        match factor(s, begin, cells, around, left) {
-            ReadValue::Bad(p) => return ReadValue::Bad(p),
-            ReadValue::Got(p, b) => {
-                value = grouped(by, value, b);
-                if leaves::byte_at(s, p) != b'*' {
-                    return ReadValue::Got(p, value);
-                }
-                by = OperatorFound::Is(Operator::Times);
-                begin = p + 1;
-            }
-        }
-    }
-}
-
-// "A sum is products joined by `+` or `-`"
-#[cycle(bracketed_expression_factor_product_sum)]
-fn sum(s: &[u8], at: usize, cells: &[i32], around: Around, left: usize) -> ReadValue
-    ensures { result ≡ as_value (Readers.sum_read cells.now around s.now left at) }
-{
-    let mut begin = at;
-    let mut value = Worked::Value(0);
-    let mut by = OperatorFound::Nothing;
-    loop {
-        match product(s, begin, cells, around, left) {
-            ReadValue::Bad(p) => return ReadValue::Bad(p),
-            ReadValue::Got(p, b) => {
-                value = grouped(by, value, b);
-                match sign_at(s, p) {
-                    OperatorFound::Nothing => return ReadValue::Got(p, value),
-                    OperatorFound::Is(o) => {
-                        by = OperatorFound::Is(o);
-                        begin = p + 1;
-                    }
-                }
-            }
-        }
-    }
-}
-
-// "Expression: a sum, or two sums joined by one `<` or `=`", with so many brackets still allowed.
-#[cycle(bracketed_expression_factor_product_sum)]
-pub fn expression(s: &[u8], at: usize, cells: &[i32], around: Around, left: usize) -> ReadValue
-    ensures { result ≡ as_value (Readers.expression_read cells.now around s.now left at) }
-{
-    let mut begin = at;
-    let mut value = Worked::Value(0);
-    let mut by = OperatorFound::Nothing;
-    loop {
-        match sum(s, begin, cells, around, left) {
-            ReadValue::Bad(p) => return ReadValue::Bad(p),
-            ReadValue::Got(p, b) => {
-                value = grouped(by, value, b);
-                match comparison_after(by, s, p) {
-                    OperatorFound::Nothing => return ReadValue::Got(p, value),
-                    OperatorFound::Is(o) => {
-                        by = OperatorFound::Is(o);
-                        begin = p + 1;
-                    }
-                }
-            }
-        }
-    }
+    Reader::of_values(s, cells, around).expression(at, left)
 }

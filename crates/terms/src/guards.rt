@@ -1,24 +1,44 @@
 // Guard, conjunction and atom readers, which call one another and the readers of expressions.
 ghost use Rattle.std.specs.Prelude.{◌≡◌, ◌<◌, length};
-ghost use Rattle.whole.specs.Whole.{truth};
-ghost use Rattle.whole.specs.declared.Worked.TheVariants.{Value};
-ghost use Rattle.terms.specs.Vocabulary.Answers.{as_value, surroundings};
+ghost use Rattle.terms.specs.Vocabulary.Answers.{as_result};
 ghost use Rattle.terms.specs.Bytes.{byte_at};
 ghost use Rattle.terms.specs.Guards as Guards;
 ghost use Rattle.terms.specs.Leaves as Leaves;
 ghost use Rattle.terms.specs.Parsed.{mapped, closed};
 ghost use Rattle.terms.specs.Vocabulary.Readers as Readers;
-ghost use Rattle.terms.specs.Values as Values;
 
-use crate::{Around, AtomStart, Junction, ReadValue, ReadVariable, expressions, leaves, values};
-use whole::Worked;
+use crate::expressions::{Reader, named};
+use crate::readings::GuardReading;
+use crate::{Around, AtomStart, Junction, Parsed, leaves};
+
+// "atoms joined by `&`"
+#[tactic(auto, unfolding(crate::specs::Guards::ampersand))]
+fn ampersand(b: u8) -> Option<Junction>
+    ensures { result ≡ Guards.ampersand b }
+{
+    match b {
+        b'&' => Some(Junction::Both),
+        _ => None,
+    }
+}
+
+// "conjunctions joined by `|`"
+#[tactic(auto, unfolding(crate::specs::Guards::bar))]
+fn bar(b: u8) -> Option<Junction>
+    ensures { result ≡ Guards.bar b }
+{
+    match b {
+        b'|' => Some(Junction::Either),
+        _ => None,
+    }
+}
 
 // What an atom begins with.
 #[tactic(auto, unfolding(crate::specs::Bytes::told, crate::specs::Guards::atom_start_of))]
-fn atom_start_at(s: &[u8], at: usize) -> AtomStart
-    ensures { result ≡ Guards.atom_start_of (byte_at s.now at) }
+fn atom_start(b: u8) -> AtomStart
+    ensures { result ≡ Guards.atom_start_of b }
 {
-    match leaves::byte_at(s, at) {
+    match b {
         b'w' => AtomStart::Wait,
         b'[' => AtomStart::Test,
         b'(' => AtomStart::Guard,
@@ -27,143 +47,93 @@ fn atom_start_at(s: &[u8], at: usize) -> AtomStart
     }
 }
 
-// "a variable followed by `?`"
-#[tactic(auto, using(crate::proofs::Answers::answer_bad, crate::proofs::Answers::answer_got, crate::proofs::Answers::variable_bad, crate::proofs::Answers::variable_got, crate::proofs::Moving::within_text, crate::proofs::Nesting::closed_fail, crate::proofs::Nesting::closed_go, crate::proofs::Nesting::closed_none, whole::proofs::Ranges::handed))]
-fn reply(s: &[u8], at: usize, cells: &[i32], around: Around) -> ReadValue
-    ensures { result ≡ as_value (mapped (λ x. Value (truth (Values.is_replied (surroundings cells.now around.here) x))) (closed 63 s.now (Leaves.variable around.limits s.now at))) }
-{
-    match leaves::variable(around.limits, s, at) {
-        ReadVariable::Bad(p) => ReadValue::Bad(p),
-        ReadVariable::Got(p, x) => {
-            if leaves::byte_at(s, p) == b'?' {
-                ReadValue::Got(
-                    p + 1,
-                    Worked::Value(whole::truth(values::is_replied(cells, around.here, x))),
-                )
-            } else {
-                ReadValue::Bad(p)
-            }
+impl<'t, R: GuardReading> Reader<'t, R> {
+    // "a variable followed by `?`"
+    #[tactic(auto, using(crate::proofs::Answers::answer_bad, crate::proofs::Answers::answer_got, crate::proofs::Answers::result_bad, crate::proofs::Answers::result_got, crate::proofs::Moving::within_text, crate::proofs::Nesting::closed_fail, crate::proofs::Nesting::closed_go, crate::proofs::Nesting::closed_none))]
+    fn reply(&self, at: usize) -> Parsed<R::Guard>
+        ensures { result ≡ as_result (mapped (R.guard_operations self.now.reading).reply (closed 63 self.now.text.now (Leaves.variable self.now.limits self.now.text.now at))) }
+    {
+        let (p, x) = leaves::variable(self.limits, self.text, at)?;
+        if leaves::byte_at(self.text, p) == b'?' {
+            Ok((p + 1, self.reading.reply(x)))
+        } else {
+            Err(p)
         }
     }
-}
 
-// "an expression in square brackets", as a test.
-#[tactic(auto, unfolding(crate::specs::Parsed::mapped, crate::specs::Vocabulary::Answers::as_value))]
-fn test(s: &[u8], at: usize, cells: &[i32], around: Around, left: usize) -> ReadValue
-    requires { at < length s.now }
-    ensures { result ≡ as_value (mapped Values.tested (Readers.inside_read cells.now around s.now 93 left at)) }
-{
-    match expressions::bracketed(s, at, cells, around, left, b']') {
-        ReadValue::Bad(p) => ReadValue::Bad(p),
-        ReadValue::Got(p, a) => ReadValue::Got(p, values::tested(a)),
+    // "an expression in square brackets", as a test.
+    #[tactic(auto, unfolding(crate::specs::Parsed::mapped, crate::specs::Vocabulary::Answers::as_result))]
+    fn test(&self, at: usize, left: usize) -> Parsed<R::Guard>
+        requires { at < length self.now.text.now }
+        ensures { result ≡ as_result (mapped (R.guard_operations self.now.reading).test (Readers.bracketed_at (R.operations self.now.reading) self.now.limits self.now.text.now 93 left at)) }
+    {
+        let (p, a) = self.bracketed(at, left, b']')?;
+        Ok((p, self.reading.test(a)))
     }
-}
 
-// "a guard in round brackets", from the opening one on.
-#[cycle(atom_conjoined_conjunction_disjoined_guard_nested)]
-fn nested(s: &[u8], at: usize, cells: &[i32], around: Around, left: usize) -> ReadValue
-    requires { at < length s.now }
-    ensures { result ≡ as_value (Readers.nested_read cells.now around s.now left at) }
-{
-    if left == 0 {
-        return ReadValue::Bad(at);
-    }
-    match guard(s, at + 1, cells, around, left - 1) {
-        ReadValue::Bad(p) => ReadValue::Bad(p),
-        ReadValue::Got(p, g) => {
-            if leaves::byte_at(s, p) == b')' {
-                ReadValue::Got(p + 1, g)
-            } else {
-                ReadValue::Bad(p)
-            }
+    // "a guard in round brackets", from the opening one on. One reader for it and `bracketed` is no plainer, as with the joined items there.
+    #[cycle(atom_conjunction_guard_nested)]
+    fn nested(&self, at: usize, left: usize) -> Parsed<R::Guard>
+        requires { at < length self.now.text.now }
+        ensures { result ≡ as_result (Readers.nested_at (R.operations self.now.reading) (R.guard_operations self.now.reading) self.now.limits self.now.text.now left at) }
+    {
+        if left == 0 {
+            return Err(at);
+        }
+        let (p, g) = self.guard(at + 1, left - 1)?;
+        if leaves::byte_at(self.text, p) == b')' {
+            Ok((p + 1, g))
+        } else {
+            Err(p)
         }
     }
-}
 
-// "an atom is `wait`, a variable followed by `?`, an expression in square brackets, or a guard in round brackets"
-#[cycle(atom_conjoined_conjunction_disjoined_guard_nested)]
-fn atom(s: &[u8], at: usize, cells: &[i32], around: Around, left: usize) -> ReadValue
-    ensures { result ≡ as_value (Readers.atom_read cells.now around s.now left at) }
-{
-    match atom_start_at(s, at) {
-        AtomStart::Wait => expressions::named(b"wait", values::waited(cells, around.here), s, at),
-        AtomStart::Reply => reply(s, at, cells, around),
-        AtomStart::Test => test(s, at, cells, around, left),
-        AtomStart::Guard => nested(s, at, cells, around, left),
-        AtomStart::Nothing => ReadValue::Bad(at),
-    }
-}
-
-// The atoms after a first.
-#[cycle(atom_conjoined_conjunction_disjoined_guard_nested)]
-fn conjoined(
-    s: &[u8],
-    at: usize,
-    g: Worked,
-    cells: &[i32],
-    around: Around,
-    left: usize,
-) -> ReadValue
-    ensures { result ≡ as_value (Readers.conjoined_read cells.now around s.now left at g) }
-{
-    let mut end = at;
-    let mut value = g;
-    while leaves::byte_at(s, end) == b'&' {
-        match atom(s, end + 1, cells, around, left) {
-            ReadValue::Bad(p) => return ReadValue::Bad(p),
-            ReadValue::Got(p, h) => {
-                value = values::joined(Junction::Both, value, h);
-                end = p;
-            }
+    // "an atom is `wait`, a variable followed by `?`, an expression in square brackets, or a guard in round brackets"
+    #[cycle(atom_conjunction_guard_nested)]
+    fn atom(&self, at: usize, left: usize) -> Parsed<R::Guard>
+        ensures { result ≡ as_result (Readers.atom_at (R.operations self.now.reading) (R.guard_operations self.now.reading) self.now.limits self.now.text.now left at) }
+    {
+        match atom_start(leaves::byte_at(self.text, at)) {
+            AtomStart::Wait => named(b"wait", self.reading.wait(), self.text, at),
+            AtomStart::Reply => self.reply(at),
+            AtomStart::Test => self.test(at, left),
+            AtomStart::Guard => self.nested(at, left),
+            AtomStart::Nothing => Err(at),
         }
     }
-    ReadValue::Got(end, value)
-}
 
-// "a conjunction is atoms joined by `&`"
-#[cycle(atom_conjoined_conjunction_disjoined_guard_nested)]
-fn conjunction(s: &[u8], at: usize, cells: &[i32], around: Around, left: usize) -> ReadValue
-    ensures { result ≡ as_value (Readers.conjunction_read cells.now around s.now left at) }
-{
-    match atom(s, at, cells, around, left) {
-        ReadValue::Bad(p) => ReadValue::Bad(p),
-        ReadValue::Got(p, g) => conjoined(s, p, g, cells, around, left),
-    }
-}
-
-// The conjunctions after a first.
-#[cycle(atom_conjoined_conjunction_disjoined_guard_nested)]
-fn disjoined(
-    s: &[u8],
-    at: usize,
-    g: Worked,
-    cells: &[i32],
-    around: Around,
-    left: usize,
-) -> ReadValue
-    ensures { result ≡ as_value (Readers.disjoined_read cells.now around s.now left at g) }
-{
-    let mut end = at;
-    let mut value = g;
-    while leaves::byte_at(s, end) == b'|' {
-        match conjunction(s, end + 1, cells, around, left) {
-            ReadValue::Bad(p) => return ReadValue::Bad(p),
-            ReadValue::Got(p, h) => {
-                value = values::joined(Junction::Either, value, h);
-                end = p;
-            }
+    // "a conjunction is atoms joined by `&`"
+    #[cycle(atom_conjunction_guard_nested)]
+    fn conjunction(&self, at: usize, left: usize) -> Parsed<R::Guard>
+        ensures { result ≡ as_result (Readers.conjunction_at (R.operations self.now.reading) (R.guard_operations self.now.reading) self.now.limits self.now.text.now left at) }
+    {
+        let (mut end, mut value) = self.atom(at, left)?;
+        while let Some(j) = ampersand(leaves::byte_at(self.text, end)) {
+            let (p, h) = self.atom(end + 1, left)?;
+            value = self.reading.join(j, value, h);
+            end = p;
         }
+        Ok((end, value))
     }
-    ReadValue::Got(end, value)
+
+    /// "Guard: conjunctions joined by `|`", with so many brackets still allowed.
+    #[cycle(atom_conjunction_guard_nested)]
+    pub fn guard(&self, at: usize, left: usize) -> Parsed<R::Guard>
+        ensures { result ≡ as_result (Guards.guard (R.operations self.now.reading) (R.guard_operations self.now.reading) self.now.limits self.now.text.now left at) }
+    {
+        let (mut end, mut value) = self.conjunction(at, left)?;
+        while let Some(j) = bar(leaves::byte_at(self.text, end)) {
+            let (p, h) = self.conjunction(end + 1, left)?;
+            value = self.reading.join(j, value, h);
+            end = p;
+        }
+        Ok((end, value))
+    }
 }
 
-// "Guard: conjunctions joined by `|`", with so many brackets still allowed.
-#[cycle(atom_conjoined_conjunction_disjoined_guard_nested)]
-pub fn guard(s: &[u8], at: usize, cells: &[i32], around: Around, left: usize) -> ReadValue
-    ensures { result ≡ as_value (Readers.guard_read cells.now around s.now left at) }
+/// A guard, with so many brackets still allowed: its value.
+pub fn guard(s: &[u8], at: usize, cells: &[i32], around: Around, left: usize) -> Parsed<Option<i32>>
+    ensures { result ≡ as_result (Readers.guard_read cells.now around s.now left at) }
 {
-    match conjunction(s, at, cells, around, left) {
-        ReadValue::Bad(p) => ReadValue::Bad(p),
-        ReadValue::Got(p, g) => disjoined(s, p, g, cells, around, left),
-    }
+    Reader::of_values(s, cells, around).guard(at, left)
 }

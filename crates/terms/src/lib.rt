@@ -2,11 +2,11 @@
 #![tactic(auto)]
 
 use layout::{Label, ObjectNumber};
-use whole::{Operator, Worked};
 
 pub mod expressions;
 pub mod guards;
 pub mod leaves;
+pub mod readings;
 pub mod values;
 
 // A variable of a method: "a0..a7 below attrs, v0..v7 below locals".
@@ -58,13 +58,6 @@ pub enum AtomStart {
     Nothing,
 }
 
-// A byte as an operator, or none.
-#[derive(Clone, Copy)]
-pub enum OperatorFound {
-    Nothing,
-    Is(Operator),
-}
-
 // "conjunctions joined by `|`; a conjunction is atoms joined by `&`"
 #[derive(Clone, Copy)]
 pub enum Junction {
@@ -72,28 +65,6 @@ pub enum Junction {
     Either,
 }
 
-// Where a reading ended and what was read, or the place of the refusal: the first byte from which no continuation is valid.
-#[derive(Clone, Copy)]
-pub enum ReadNumber {
-    Got(usize, u32),
-    Bad(usize),
-}
-
-#[derive(Clone, Copy)]
-pub enum ReadVariable {
-    Got(usize, Variable),
-    Bad(usize),
-}
-
-#[derive(Clone, Copy)]
-pub enum ReadWord {
-    Got(usize),
-    Bad(usize),
-}
-
-// The same for an expression or a guard, with its value.
-#[derive(Clone, Copy)]
-pub enum ReadValue {
-    Bad(usize),
-    Got(usize, Worked),
-}
+/// What reading at a place gives: where it ended and what was read, or the place of the refusal, which is the first byte from which no
+/// continuation is valid.
+pub type Parsed<T> = Result<(usize, T), usize>;

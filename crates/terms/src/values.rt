@@ -1,14 +1,11 @@
 // What variables, replies and guards are worth in the cells that are lent.
-ghost use Rattle.std.specs.Prelude.{◌≡◌, pos};
+ghost use Rattle.std.specs.Prelude.{◌≡◌, pos, Some};
 ghost use Rattle.whole.specs.Whole.{truth};
-ghost use Rattle.whole.specs.declared.Worked.TheVariants.{Value};
 ghost use Rattle.layout.specs.Layout as Layout;
 ghost use Rattle.terms.specs.Vocabulary.Answers.{surroundings};
 ghost use Rattle.terms.specs.Values as Values;
 
 use crate::{Here, Junction, Variable};
-use layout::LabelFound;
-use whole::Worked;
 
 // A variable's cell: an attribute of the object, or a local of the call.
 #[tactic(auto, unfolding(crate::specs::Values::held, crate::specs::Vocabulary::Answers::surroundings))]
@@ -19,23 +16,23 @@ pub fn held(cells: &[i32], here: Here, x: Variable) -> i32
         Variable::Attribute(i) => layout::of_object(
             cells,
             here.object,
-            layout::ATTRIBUTE + i as u16,
+            layout::ATTRIBUTE + u16::from(i),
         ),
-        Variable::Local(i) => layout::of_call(cells, here.label, layout::LOCAL + i as u16),
+        Variable::Local(i) => layout::of_call(cells, here.label, layout::LOCAL + u16::from(i)),
     }
 }
 
 // `self` and `caller`.
-pub fn itself(here: Here) -> Worked
-    ensures { result ≡ Value (pos here.object.0) }
+pub fn itself(here: Here) -> Option<i32>
+    ensures { result ≡ Some (pos here.object.0) }
 {
-    Worked::Value(here.object.0 as i32)
+    Some(i32::from(here.object.0))
 }
 
-pub fn caller(cells: &[i32], here: Here) -> Worked
-    ensures { result ≡ Value (Layout.of_call cells.now here.label.0 Layout.caller) }
+pub fn caller(cells: &[i32], here: Here) -> Option<i32>
+    ensures { result ≡ Some (Layout.of_call cells.now here.label.0 Layout.caller) }
 {
-    Worked::Value(layout::of_call(cells, here.label, layout::CALLER))
+    Some(layout::of_call(cells, here.label, layout::CALLER))
 }
 
 // "`wait` is true exactly when cleared is 1"
@@ -47,32 +44,26 @@ pub fn is_cleared(cells: &[i32], here: Here) -> bool
 }
 
 // `wait` as an atom of a guard.
-pub fn waited(cells: &[i32], here: Here) -> Worked
-    ensures { result ≡ Value (truth (Values.is_cleared (surroundings cells.now here))) }
+pub fn waited(cells: &[i32], here: Here) -> Option<i32>
+    ensures { result ≡ Some (truth (Values.is_cleared (surroundings cells.now here))) }
 {
-    Worked::Value(whole::truth(is_cleared(cells, here)))
+    Some(whole::truth(is_cleared(cells, here)))
 }
 
 // "`X?` is true as for `get`, but takes nothing"
-#[tactic(auto, using(layout::proofs::Numbers::label_none, layout::proofs::Numbers::label_some, whole::proofs::Ranges::handed), unfolding(crate::specs::Values::is_replied, crate::specs::Vocabulary::Answers::surroundings))]
+#[tactic(auto, unfolding(crate::specs::Values::is_replied, crate::specs::Vocabulary::Answers::surroundings))]
 pub fn is_replied(cells: &[i32], here: Here, x: Variable) -> bool
     ensures { result ≡ Values.is_replied (surroundings cells.now here) x }
 {
-    match layout::reply_for(cells, here.object, held(cells, here, x)) {
-        LabelFound::At(_) => true,
-        LabelFound::Nothing => false,
-    }
+    layout::reply_for(cells, here.object, held(cells, here, x)).is_some()
 }
 
 // An expression as an atom of a guard: 1 where it is true.
 #[tactic(auto, unfolding(crate::specs::Values::tested))]
-pub fn tested(w: Worked) -> Worked
+pub fn tested(w: Option<i32>) -> Option<i32>
     ensures { result ≡ Values.tested w }
 {
-    match w {
-        Worked::Value(z) => Worked::Value(whole::truth(whole::is_true(z))),
-        Worked::OutOfRange => Worked::OutOfRange,
-    }
+    Some(whole::truth(whole::is_true(w?)))
 }
 
 // Two tests joined.
@@ -88,18 +79,9 @@ fn junction(j: Junction, left: bool, right: bool) -> bool
 
 // Two guards joined. "All atoms are worked out."
 #[tactic(auto, unfolding(crate::specs::Values::joined))]
-pub fn joined(j: Junction, left: Worked, right: Worked) -> Worked
+pub fn joined(j: Junction, left: Option<i32>, right: Option<i32>) -> Option<i32>
     ensures { result ≡ Values.joined j left right }
 {
-    match left {
-        Worked::OutOfRange => Worked::OutOfRange,
-        Worked::Value(x) => match right {
-            Worked::OutOfRange => Worked::OutOfRange,
-            Worked::Value(y) => Worked::Value(whole::truth(junction(
-                j,
-                whole::is_true(x),
-                whole::is_true(y),
-            ))),
-        },
-    }
+    let (x, y) = (left?, right?);
+    Some(whole::truth(junction(j, whole::is_true(x), whole::is_true(y))))
 }

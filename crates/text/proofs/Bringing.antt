@@ -1,8 +1,8 @@
 -- What lines were read as has a property, or the refusal is small: how it goes past readings that follow one another. Assumes nothing.
+use Rattle.std.specs.Prelude.{Option, None, Some}
 use Prim.Native.Nat.{ℕ, zero, suc, ◌+◌, ◌≤◌}
 use mathlib.Core.Bool.{Bool, true, false}
 use mathlib.Core.List.{List, [], ◌∷◌}
-use mathlib.Core.Option.{Option, none, some}
 use mathlib.Core.Path.{◌≡◌, refl, sym, ap, subst}
 use native.Mathlib.Omega.{arith}
 use lib.ListN.{length, drop}
@@ -94,9 +94,9 @@ module _ (last : ℕ) where
   brings_number key lowest highest = brings_key _ key _ (λ at v _. go v (number_in lowest highest v) refl)
     where
       go : (v : Text) (o : Option ℕ) → number_in lowest highest v ≡ o
-          → TakenAs (λ n. (lowest ≤ n) × (n ≤ highest)) (elim o [ none ↦ wrong wrong_number | some n ↦ right n ])
-      go v none e = (omega arith, omega arith)
-      go v (some n) e = let h = number_is lowest highest v n e in (h.1, h.2)
+          → TakenAs (λ n. (lowest ≤ n) × (n ≤ highest)) (elim o [ None ↦ wrong wrong_number | Some n ↦ right n ])
+      go v None e = (omega arith, omega arith)
+      go v (Some n) e = let h = number_is lowest highest v n e in (h.1, h.2)
 
   -- so many of a thing are read: so many items, one after another
   pub brings_each : {A S : Type 0} (One : ℕ → S → A → S → Type 0) (one : ℕ → S → Reader (A × S))

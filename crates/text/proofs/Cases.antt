@@ -1,7 +1,7 @@
 -- Every bound of a line from both sides, computed. Assumes nothing.
+use Rattle.std.specs.Prelude.{None, Some}
 use mathlib.Core.Bool.{true, false}
 use mathlib.Core.List.{[], ◌∷◌}
-use mathlib.Core.Option.{none, some}
 use mathlib.Core.Path.{refl}
 use lib.ListN.{replicate}
 use Rattle.whole.proofs.Tables.{◌is◌, Holds}
@@ -38,14 +38,14 @@ cut_lines = (refl, (refl, (refl, (refl, tt))))
 
 -- "A decimal has no leading zero, except 0 itself.": the whole value, from its lowest to its highest
 numbers_in : Holds (
-    (number_in 1 16 (bytes "0") is none)
-    ∷ (number_in 1 16 (bytes "1") is some 1)
-    ∷ (number_in 1 16 (bytes "16") is some 16)
-    ∷ (number_in 1 16 (bytes "17") is none)
-    ∷ (number_in 0 16 (bytes "0") is some 0)
-    ∷ (number_in 0 16 (bytes "01") is none)
-    ∷ (number_in 0 16 (bytes "1 ") is none)
-    ∷ (number_in 0 16 [] is none)
+    (number_in 1 16 (bytes "0") is None)
+    ∷ (number_in 1 16 (bytes "1") is Some 1)
+    ∷ (number_in 1 16 (bytes "16") is Some 16)
+    ∷ (number_in 1 16 (bytes "17") is None)
+    ∷ (number_in 0 16 (bytes "0") is Some 0)
+    ∷ (number_in 0 16 (bytes "01") is None)
+    ∷ (number_in 0 16 (bytes "1 ") is None)
+    ∷ (number_in 0 16 [] is None)
     ∷ []
     )
 unfolding text_open

@@ -1,4 +1,5 @@
 -- A line by its key: what refuses it, and where its value stands. Assumes nothing.
+use Rattle.std.specs.Prelude.{Option, Some, None, Result, Ok, Err}
 use Prim.Native.Nat.{ℕ, zero, suc, ◌+◌, ◌-◌, ◌≤◌, ◌<◌}
 use mathlib.Core.Bool.{Bool, true, false}
 use mathlib.Core.List.{List, [], ◌∷◌}
@@ -11,14 +12,14 @@ use lib.Dec.{leb, eqb}
 use lib.ListN.{length, take, drop, length-take, length-drop}
 use lib.Seq.{drop-cons, drop-drop, take-nil}
 use Rattle.whole.specs.Refusals.{broken_line, wrong_key}
+use Rattle.whole.specs.declared.refusals.Refusal.{Refusal}
+use Rattle.whole.specs.Vocabulary.Refusing.{number_of}
 use Rattle.whole.proofs.Both.{both_left}
 use Rattle.terms.specs.Bytes.{Text, byte_at}
 use Rattle.terms.specs.Parsed.{Parsed, got, bad, word}
 use Rattle.terms.proofs.Moving.{within_text, no_got, word_yes, word_no, word_on}
 use Rattle.terms.proofs.Parts.{Free, shifted, unshifted, part_length, word_part}
 use Rattle.text.specs.declared.At.{At}
-use Rattle.text.specs.declared.Keyed.{Keyed}
-use Rattle.text.specs.declared.LineFound.{LineFound}
 use Rattle.text.specs.declared.Verdict.{Verdict}
 use Rattle.text.specs.InOrder.{LinesRead, failed, after, Taken, wrong, right, passed, key_line}
 use Rattle.text.specs.Lines.{Line, lines, line_feed, longest_line, plain_bytes, sound, content}
@@ -111,13 +112,13 @@ module _ {A : Type 0} (s key : Text) (p : At) (value : ℕ → Text → Taken A)
   line_ended h = ap (key_line key value p.line) (line_none s p.place h)
 
   -- a number that refuses it if it is sound refuses it unless it is broken
-  pub refused_as : (n : ℕ) → ((e : ℕ) → sound_end s p.place ≡ LineFound.Sound e → x ≡ failed (record { number = n; line = p.line })) → x ≡ failed (fault s n p)
+  pub refused_as : (n : ℕ) → ((e : ℕ) → sound_end s p.place ≡ Some e → x ≡ failed (record { number = n; line = p.line })) → x ≡ failed (fault s n p)
   refused_as n h = go (leb (length s) p.place) refl (sound_end s p.place) refl
     where
-      go : (t : Bool) → leb (length s) p.place ≡ t → (f : LineFound) → sound_end s p.place ≡ f → x ≡ failed (fault s n p)
+      go : (t : Bool) → leb (length s) p.place ≡ t → (f : Option ℕ) → sound_end s p.place ≡ f → x ≡ failed (fault s n p)
       go true t f g = let l = leb-true _ _ t in line_ended l ∙ sym (ap failed (fault_ended s n p l))
-      go false t (LineFound.Sound e) g = h e g ∙ sym (ap failed (fault_sound s n p e (sound_found s p.place e g)))
-      go false t LineFound.Broken g =
+      go false t (Some e) g = h e g ∙ sym (ap failed (fault_sound s n p e (sound_found s p.place e g)))
+      go false t None g =
           let b = broken_found s p.place g (leb-false _ _ t) in
           ap (key_line key value p.line) b.cut ∙ first_broken key value p.line b.first b.others b.broken ∙ sym (ap failed (fault_broken s n p b))
 
@@ -164,15 +165,15 @@ module _ {A : Type 0} (s key : Text) (p : At) (value : ℕ → Text → Taken A)
     key_missed q f = refused_as wrong_key (λ e g. line_missed e (sound_found s p.place e g) q f)
 
     -- the same by what the code gives of the key
-    module _ (r : Keyed) (t : KeyTold key s p.place r) where
-      pub value_failed : (n : ℕ) → r ≡ Keyed.Failed n → x ≡ failed (fault s n p)
+    module _ (r : Result (ℕ × ℕ) Refusal) (t : KeyTold key s p.place r) where
+      pub value_failed : (n : Refusal) → r ≡ Err n → x ≡ failed (fault s (number_of n) p)
       unfolding KeyTold
-      value_failed n f = refused_as n (λ e g.
+      value_failed n f = refused_as (number_of n) (λ e g.
           let h = subst (KeyTold key s p.place) f t e g in
           line_missed e (sound_found s p.place e g) h.1 h.2 ∙ ap (λ m. failed (record { number = m; line = p.line })) (sym h.0))
 
-      module _ (v e : ℕ) (f : r ≡ Keyed.Value v e) where
-        told : (word key s p.place ≡ got v tt) × (sound_end s p.place ≡ LineFound.Sound e)
+      module _ (v e : ℕ) (f : r ≡ Ok (v, e)) where
+        told : (word key s p.place ≡ got v tt) × (sound_end s p.place ≡ Some e)
         unfolding KeyTold
         told = subst (KeyTold key s p.place) f t
 

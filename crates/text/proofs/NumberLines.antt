@@ -1,8 +1,8 @@
 -- A line with a number: what the code reads behind its key is what the definition gives of the line. Assumes nothing.
+use Rattle.std.specs.Prelude.{Option, None, Some}
 use Prim.Native.Nat.{ℕ, zero, suc, ◌+◌, ◌-◌, ◌*◌, ◌≤◌, ◌<◌}
 use mathlib.Core.Bool.{Bool, true, false, ◌&&◌}
 use mathlib.Core.List.{[]}
-use mathlib.Core.Option.{Option, none, some}
 use mathlib.Core.Path.{◌≡◌, refl, sym, ap, ap₂, subst, ◌∙◌}
 use native.Mathlib.Nat.{le_of_lt}
 use native.Mathlib.Numerals.{add-one}
@@ -33,11 +33,11 @@ use Rattle.text.proofs.Plain.{plain_from, plain_first, plain_past, plain_start}
 use Rattle.text.proofs.SoundEnds.{SoundLine, sound_found, end_from_plain, end_here}
 
 -- an LF is no digit
-no_digit : digit line_feed ≡ none
+no_digit : digit line_feed ≡ None
 no_digit = below_digits line_feed (omega arith)
 
 -- a digit is plain, and so are those of a decimal
-digit_plain : (b d : ℕ) → digit b ≡ some d → plain_byte b ≡ true
+digit_plain : (b d : ℕ) → digit b ≡ Some d → plain_byte b ≡ true
 digit_plain b d e = go (leb 48 b) refl (leb b 57) refl
   where
     go : (t : Bool) → leb 48 b ≡ t → (u : Bool) → leb b 57 ≡ u → plain_byte b ≡ true
@@ -46,7 +46,7 @@ digit_plain b d e = go (leb 48 b) refl (leb b 57) refl
     go false t u v = let f = below_digits b (leb-false 48 b t) in absurd (let z : ◌≡◌ {A = ℕ} 0 1 = cc in omega arith)
 
 -- one before bytes that are plain
-plain_before : (s : Text) (at d : ℕ) → digit (byte_at s at) ≡ some d → plain_bytes (drop (at + 1) s) ≡ true → plain_bytes (drop at s) ≡ true
+plain_before : (s : Text) (at d : ℕ) → digit (byte_at s at) ≡ Some d → plain_bytes (drop (at + 1) s) ≡ true → plain_bytes (drop at s) ≡ true
 plain_before s at d e h = ap plain_bytes (drop-cons s at 0 (digit_within s at d e)) ∙ plain_first _ _ (digit_plain _ d e) ∙ ap (λ i. plain_bytes (drop i s)) (sym (add-one at)) ∙ h
 
 digits_plain : (most : ℕ) (s : Text) (n at p k m : ℕ) → repeated (counting most s) n at k ≡ got p m → plain_bytes (drop p s) ≡ true → plain_bytes (drop at s) ≡ true
@@ -55,8 +55,8 @@ digits_plain most s (suc n) at p k m e h = go (digit (byte_at s at)) refl (digit
   where
     go : (o : Option ℕ) → digit (byte_at s at) ≡ o
         → ((k m : ℕ) → repeated (counting most s) n (at + 1) k ≡ got p m → plain_bytes (drop p s) ≡ true → plain_bytes (drop (at + 1) s) ≡ true) → plain_bytes (drop at s) ≡ true
-    go none f rest = subst (λ i. plain_bytes (drop i s) ≡ true) (sym (same_place at p k m (sym (repeated_none _ n at k (counting_none most s at k f)) ∙ e))) h
-    go (some d) f rest = test (leb (k * 10 + d) most) refl
+    go None f rest = subst (λ i. plain_bytes (drop i s) ≡ true) (sym (same_place at p k m (sym (repeated_none _ n at k (counting_none most s at k f)) ∙ e))) h
+    go (Some d) f rest = test (leb (k * 10 + d) most) refl
       where
         test : (t : Bool) → leb (k * 10 + d) most ≡ t → plain_bytes (drop at s) ≡ true
         test true u =
@@ -67,14 +67,14 @@ decimal_plain : (most : ℕ) (s : Text) (at p n : ℕ) → decimal most s at ≡
 decimal_plain most s at p n e h = go (digit (byte_at s at)) refl
   where
     go : (o : Option ℕ) → digit (byte_at s at) ≡ o → plain_bytes (drop at s) ≡ true
-    go none f = absurd (no_got _ _ _ (sym (decimal_none most s at f) ∙ e))
-    go (some d) f = test (leb d most) refl (eqb d 0) refl
+    go None f = absurd (no_got _ _ _ (sym (decimal_none most s at f) ∙ e))
+    go (Some d) f = test (leb d most) refl (eqb d 0) refl
       where
         test : (t : Bool) → leb d most ≡ t → (u : Bool) → eqb d 0 ≡ u → plain_bytes (drop at s) ≡ true
         test false t u v = absurd (no_got _ _ _ (sym (decimal_past most s at d f (leb-false _ _ t)) ∙ e))
         test true t true v =
             let z = eqb-true d 0 v in
-            plain_before s at d f (subst (λ i. plain_bytes (drop i s) ≡ true) (sym (same_place _ _ _ _ (sym (decimal_zero most s at (f ∙ ap some z)) ∙ e))) h)
+            plain_before s at d f (subst (λ i. plain_bytes (drop i s) ≡ true) (sym (same_place _ _ _ _ (sym (decimal_zero most s at (f ∙ ap Some z)) ∙ e))) h)
         test true t false v =
             plain_before s at d f (digits_plain most s (length s) (at + 1) p d n (sym (decimal_more most s at d f (leb-true _ _ t) (eqb-false _ _ v)) ∙ e) h)
 
@@ -118,7 +118,7 @@ module _ (s : Text) (low most at : ℕ) where
 
 -- what a line's number is taken for
 abbrev taken : Option ℕ → Taken ℕ
-taken o = elim o [ none ↦ wrong wrong_number | some n ↦ right n ]
+taken o = elim o [ None ↦ wrong wrong_number | Some n ↦ right n ]
 
 -- a line whose key was read
 module _ (key s : Text) (low most : ℕ) (p : At) (plain : plain_bytes key ≡ true) (v : ℕ) (keyed : word key s p.place ≡ got v tt) where
@@ -163,14 +163,14 @@ module _ (key s : Text) (low most : ℕ) (p : At) (plain : plain_bytes key ≡ t
 
     pub number_read : read_at (number_line key low most) s p ≡ after n (p.line + 1) (lines (drop (e + 1) s))
     unfolding passed
-    number_read = by_value e line_sound (some n) (number_within low most number _ n number_decimal refl is.2)
+    number_read = by_value e line_sound (Some n) (number_within low most number _ n number_decimal refl is.2)
 
     -- where it ends, and its range
     pub number_behind : (p.place ≤ e) × (e < length s) × (low ≤ n) × (n ≤ most)
     number_behind = (omega (arith, ordered), ordered.2, is.2, decimal_below most s v e n is.0)
 
   -- a sound line of which the definition reads a number has one so
-  number_stands : (e : ℕ) → SoundLine s p.place e → (n : ℕ) → number_in low most (take (e - v) (drop v s)) ≡ some n → (fed_number low most s v ≡ got e n) × (e ≤ p.place + longest_line)
+  number_stands : (e : ℕ) → SoundLine s p.place e → (n : ℕ) → number_in low most (take (e - v) (drop v s)) ≡ Some n → (fed_number low most s v ≡ got e n) × (e ≤ p.place + longest_line)
   unfolding shifted
   number_stands e l n f =
       let h = value_inside {A = ℕ} s key p (λ _ _. wrong 0) plain e l v keyed in
@@ -185,5 +185,12 @@ module _ (key s : Text) (low most : ℕ) (p : At) (plain : plain_bytes key ≡ t
   number_missed never = refused_as s key p _ wrong_number (λ e g. let l = sound_found s p.place e g in go e l (number_in low most (take (e - v) (drop v s))) refl)
     where
       go : (e : ℕ) → SoundLine s p.place e → (o : Option ℕ) → number_in low most (take (e - v) (drop v s)) ≡ o → read_at (number_line key low most) s p ≡ failed (record { number = wrong_number; line = p.line })
-      go e l none f = by_value e l none f
-      go e l (some n) f = let h = number_stands e l n f in absurd (never e n h.0 h.1)
+      go e l None f = by_value e l None f
+      go e l (Some n) f = let h = number_stands e l n f in absurd (never e n h.0 h.1)
+
+  -- one with no number, or whose LF stands too far on
+  pub no_number : (r : ℕ) → fed_number low most s v ≡ bad r → read_at (number_line key low most) s p ≡ failed (fault s wrong_number p)
+  no_number r f = number_missed (λ e n g _. no_got r e n (sym f ∙ g))
+
+  pub number_far : (e n : ℕ) → fed_number low most s v ≡ got e n → p.place + longest_line < e → read_at (number_line key low most) s p ≡ failed (fault s wrong_number p)
+  number_far e n f far = number_missed (λ d m g short. let same : d ≡ e = same_place _ _ _ _ (sym g ∙ f) in omega arith)

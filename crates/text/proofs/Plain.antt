@@ -1,16 +1,16 @@
--- Whether bytes are plain: by the first of them, and by the last. Assumes nothing.
+-- Whether bytes are plain: by the first of them, and one after another. Assumes nothing.
+use Rattle.std.specs.List.{fold}
 use Prim.Native.Nat.{ℕ, ◌+◌, ◌-◌, ◌≤◌, ◌<◌}
 use mathlib.Core.Bool.{Bool, true, false, ◌&&◌}
 use mathlib.Core.List.{[], ◌∷◌, ◌++◌}
 use mathlib.Core.Path.{◌≡◌, refl, sym, ap, ◌∙◌}
-use native.Mathlib.Numerals.{add-one}
 use native.Mathlib.Omega.{arith}
 use borrow.Author.Tests.{le-leb, lt-leb, leb-true}
 use lib.Dec.{leb}
-use lib.ListN.{length, take, drop, length-drop}
-use lib.Seq.{take-suc, take-add, drop-drop, get_or-drop}
+use lib.ListN.{take, drop}
+use lib.Seq.{take-add, drop-drop}
 use Rattle.whole.proofs.Both.{both_left, both_right}
-use Rattle.terms.specs.Bytes.{Text, byte_at}
+use Rattle.terms.specs.Bytes.{Text}
 use Rattle.text.specs.Lines.{plain_byte, plain_bytes, line_feed}
 
 -- a byte by its two bounds
@@ -56,22 +56,9 @@ pub both_false : (b c : Bool) → c ≡ false → b && c ≡ false
 both_false true c e = e
 both_false false c e = refl
 
--- a last byte
 plain_none : plain_bytes [] ≡ true
 unfolding plain_bytes
 plain_none = refl
-
-plain_last : (s : Text) (b : ℕ) → plain_bytes (s ++ (b ∷ [])) ≡ plain_bytes s && plain_byte b
-plain_last [] b = go (plain_byte b) refl
-  where
-    go : (t : Bool) → plain_byte b ≡ t → plain_bytes (b ∷ []) ≡ plain_bytes [] && plain_byte b
-    go true e = cc (plain_first b [] e, plain_none)
-    go false e = outside_first b [] e ∙ sym (both_false (plain_bytes []) (plain_byte b) e)
-plain_last (a ∷ s) b = go (plain_byte a) refl (plain_last s b)
-  where
-    go : (t : Bool) → plain_byte a ≡ t → plain_bytes (s ++ (b ∷ [])) ≡ plain_bytes s && plain_byte b → plain_bytes (a ∷ (s ++ (b ∷ []))) ≡ plain_bytes (a ∷ s) && plain_byte b
-    go true e h = plain_first a (s ++ (b ∷ [])) e ∙ h ∙ sym (ap (λ t. t && plain_byte b) (plain_first a s e))
-    go false e h = outside_first a (s ++ (b ∷ [])) e ∙ sym (ap (λ t. t && plain_byte b) (outside_first a s e))
 
 -- some bytes behind others
 plain_joined : (s t : Text) → plain_bytes s ≡ true → plain_bytes t ≡ true → plain_bytes (s ++ t) ≡ true
@@ -88,11 +75,6 @@ module _ (s : Text) (at : ℕ) where
   pub plain_begun : plain_bytes (take (at - at) (drop at s)) ≡ true
   plain_begun = let n : at - at ≡ 0 = omega arith in ap (λ k. plain_bytes (take k (drop at s))) n ∙ plain_start
 
-  pub plain_more : (k : ℕ) → at + k < length s → plain_bytes (take (k + 1) (drop at s)) ≡ plain_bytes (take k (drop at s)) && plain_byte (byte_at s (at + k))
-  plain_more k h =
-      let z : k < length (drop at s) = omega (arith, length-drop at s) in
-      rw (add-one k, take-suc (drop at s) k 0 z) (plain_last (take k (drop at s)) (byte_at (drop at s) k) ∙ ap (λ b. plain_bytes (take k (drop at s)) && plain_byte b) (get_or-drop at s k 0))
-
   pub plain_past : (i n : ℕ) → at ≤ i → plain_bytes (take (i - at) (drop at s)) ≡ true → plain_bytes (take n (drop i s)) ≡ true
       → plain_bytes (take ((i + n) - at) (drop at s)) ≡ true
   plain_past i n h e f =
@@ -100,3 +82,18 @@ module _ (s : Text) (at : ℕ) where
       let k : at + (i - at) ≡ i = omega arith in
       let rest : plain_bytes (take n (drop (i - at) (drop at s))) ≡ true = ap (λ t. plain_bytes (take n t)) (drop-drop (i - at) at s ∙ ap (λ j. drop j s) k) ∙ f in
       rw (m, take-add (i - at) n (drop at s)) (plain_joined (take (i - at) (drop at s)) (take n (drop (i - at) (drop at s))) e rest)
+
+-- byte after byte, whether those so far are plain
+plain_so_far : (t : Bool) (s : Text) → fold (λ plain b. plain && plain_byte b) t s ≡ t && plain_bytes s
+unfolding plain_bytes
+plain_so_far true [] = refl
+plain_so_far false [] = refl
+plain_so_far t (b ∷ s) = plain_so_far (t && plain_byte b) s ∙ go t (plain_byte b)
+  where
+    go : (t u : Bool) → (t && u) && plain_bytes s ≡ t && elim u [ true ↦ plain_bytes s | false ↦ false ]
+    go true true = refl
+    go true false = refl
+    go false u = refl
+
+pub plain_folded : (s : Text) → fold (λ plain b. plain && plain_byte b) true s ≡ plain_bytes s
+plain_folded s = plain_so_far true s

@@ -1,4 +1,5 @@
 -- So many of a thing, read one after another: what is left to read decides. Assumes nothing.
+use Rattle.std.specs.Prelude.{Ok}
 use Prim.Native.Nat.{ℕ, suc, ◌+◌, ◌-◌, ◌≤◌, ◌<◌}
 use mathlib.Core.List.{List, [], ◌∷◌, ◌++◌, append-nil, append_assoc}
 use mathlib.Core.Path.{◌≡◌, refl, sym, ap, ◌∙◌}
@@ -7,7 +8,6 @@ use native.Mathlib.Omega.{arith}
 use lib.ListN.{drop}
 use Rattle.terms.specs.Bytes.{Text}
 use Rattle.text.specs.declared.At.{At}
-use Rattle.text.specs.declared.Read.TheVariants as Read
 use Rattle.text.specs.declared.Verdict.{Verdict}
 use Rattle.text.specs.InOrder.{LinesRead, failed, after, Reader, done, ◌>>=◌, each}
 use Rattle.text.specs.Lines.{Line, lines}
@@ -73,7 +73,7 @@ module _ {A S : Type 0} {s : Text} {one : ℕ → S → Reader (A × S)} {count 
   }
 
   -- all of them
-  pub passed_all : count ≤ i → (Q : List A × S → ℕ → Type 0) (n : ℕ) → (i ≡ count → Q (p.items, so) n) → Tells s Q (Read.Got n here) (read_at (each count 0 begun one) s from)
+  pub passed_all : count ≤ i → (Q : List A × S → ℕ → Type 0) (n : ℕ) → (i ≡ count → Q (p.items, so) n) → Tells s Q (Ok (n, here)) (read_at (each count 0 begun one) s from)
   unfolding Tells onto each done
   passed_all h Q n told =
       let z : count - i ≡ 0 = omega arith in

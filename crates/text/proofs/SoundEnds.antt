@@ -1,4 +1,6 @@
 -- The end of a sound line, byte by byte as the code goes through it, and what lines begin where it was looked for. Assumes nothing.
+use Rattle.std.specs.Prelude.{Option, Some, None}
+use Rattle.std.specs.Bool.{then_some}
 use Prim.Native.Nat.{ℕ, zero, suc, ◌+◌, ◌-◌, ◌≤◌, ◌<◌, min}
 use mathlib.Core.Bool.{Bool, true, false, ◌&&◌}
 use mathlib.Core.List.{List, [], ◌∷◌}
@@ -6,22 +8,21 @@ use mathlib.Core.Path.{◌≡◌, refl, sym, ap, subst, ◌∙◌}
 use native.Mathlib.Nat.{add-zero}
 use native.Mathlib.Numerals.{add-one}
 use native.Mathlib.Omega.{arith}
-use borrow.Author.Tests.{le-leb, lt-leb, eq-eqb, ne_eqb, leb-true, leb-false}
-use lib.Dec.{leb}
+use borrow.Author.Tests.{le-leb, lt-leb, eq-eqb, ne_eqb, leb-true, leb-false, eqb-true, eqb-false}
+use lib.Dec.{leb, eqb}
 use lib.ListN.{length, take, drop, length-drop}
 use lib.Seq.{drop-cons, drop-drop, get_or-drop}
 use Rattle.terms.specs.Bytes.{Text, byte_at}
-use Rattle.text.specs.declared.LineFound.{LineFound}
 use Rattle.text.specs.Lines.{Line, terminated, unterminated, grown, lines, line_feed, longest_line, plain_byte, plain_bytes, sound, content}
 use Rattle.text.specs.Vocabulary.LineEnds.{first_end, sound_end}
 use Rattle.text.proofs.Cutting.{lines_first, lines_later, grown_none, grown_whole, grown_unended, lines_some, cut_whole, line_none}
 use Rattle.text.proofs.Plain.{plain_first, outside_first, plain_unfed, first_plain, both_false}
 
 -- the end of a line that begins at a place, where its bytes before another place are plain: by the lines from there
-unfoldable pub end_from : ℕ → ℕ → List Line → LineFound
-end_from at i [] = LineFound.Broken
-end_from at i (terminated l ∷ ls) = elim (leb (i + length l) (at + longest_line) && plain_bytes l) [ true ↦ LineFound.Sound (i + length l) | false ↦ LineFound.Broken ]
-end_from at i (unterminated l ∷ ls) = LineFound.Broken
+unfoldable pub end_from : ℕ → ℕ → List Line → Option ℕ
+end_from at i [] = None
+end_from at i (terminated l ∷ ls) = elim (leb (i + length l) (at + longest_line) && plain_bytes l) [ true ↦ Some (i + length l) | false ↦ None ]
+end_from at i (unterminated l ∷ ls) = None
 
 -- a length is within the longest wherever the line begins
 leb_shift : (at n : ℕ) → leb n longest_line ≡ leb (at + n) (at + longest_line)
@@ -39,31 +40,31 @@ from_start at (unterminated l ∷ ls) = refl
 
 -- a first line whose rest is plain or not
 module _ (at i : ℕ) where
-  from_none : end_from at i [] ≡ LineFound.Broken
+  from_none : end_from at i [] ≡ None
   unfolding end_from
   from_none = refl
 
-  from_unended : (l : Text) (ls : List Line) → end_from at i (unterminated l ∷ ls) ≡ LineFound.Broken
+  from_unended : (l : Text) (ls : List Line) → end_from at i (unterminated l ∷ ls) ≡ None
   unfolding end_from
   from_unended l ls = refl
 
-  from_outside : (l : Text) (ls : List Line) → plain_bytes l ≡ false → end_from at i (terminated l ∷ ls) ≡ LineFound.Broken
+  from_outside : (l : Text) (ls : List Line) → plain_bytes l ≡ false → end_from at i (terminated l ∷ ls) ≡ None
   unfolding end_from
   from_outside l ls e = rw (both_false (leb (i + length l) (at + longest_line)) (plain_bytes l) e, end_from) refl
 
   -- too long
-  from_long : at + longest_line < i → (ls : List Line) → end_from at i ls ≡ LineFound.Broken
+  from_long : at + longest_line < i → (ls : List Line) → end_from at i ls ≡ None
   from_long h [] = from_none
   from_long h (terminated l ∷ ls) = unfold end_from in rw (lt-leb (i + length l) (at + longest_line) (omega arith), end_from) refl
   from_long h (unterminated l ∷ ls) = from_unended l ls
 
   -- an LF
-  from_feed : i ≤ at + longest_line → (ls : List Line) → end_from at i (terminated [] ∷ ls) ≡ LineFound.Sound i
+  from_feed : i ≤ at + longest_line → (ls : List Line) → end_from at i (terminated [] ∷ ls) ≡ Some i
   unfolding end_from plain_bytes
-  from_feed h ls = rw (le-leb (i + 0) (at + longest_line) (omega arith), end_from) (ap LineFound.Sound (add-zero i))
+  from_feed h ls = rw (le-leb (i + 0) (at + longest_line) (omega arith), end_from) (ap Some (add-zero i))
 
   -- a byte before some lines, outside or plain
-  from_grown_outside : (b : ℕ) → ((s : Text) → plain_bytes (b ∷ s) ≡ false) → (ls : List Line) → end_from at i (grown b ls) ≡ LineFound.Broken
+  from_grown_outside : (b : ℕ) → ((s : Text) → plain_bytes (b ∷ s) ≡ false) → (ls : List Line) → end_from at i (grown b ls) ≡ None
   from_grown_outside b h [] = ap (end_from at i) (grown_none b) ∙ from_unended _ _
   from_grown_outside b h (terminated l ∷ ls) = ap (end_from at i) (grown_whole b l ls) ∙ from_outside _ _ (h l)
   from_grown_outside b h (unterminated l ∷ ls) = ap (end_from at i) (grown_unended b l ls) ∙ from_unended _ _
@@ -72,7 +73,7 @@ module _ (at i : ℕ) where
   unfolding end_from
   from_more b l ls h =
       let n : i + suc (length l) ≡ (i + 1) + length l = omega arith in
-      let f : Bool → ℕ → LineFound = λ t m. elim (leb m (at + longest_line) && t) [ true ↦ LineFound.Sound m | false ↦ LineFound.Broken ] in
+      let f : Bool → ℕ → Option ℕ = λ t m. elim (leb m (at + longest_line) && t) [ true ↦ Some m | false ↦ None ] in
       ap (λ t. f t (i + suc (length l))) (plain_first b l h) ∙ ap (f (plain_bytes l)) n
 
 module _ (at i b : ℕ) (h : plain_byte b ≡ true) where
@@ -88,17 +89,17 @@ module _ (s : Text) (at : ℕ) where
   end_begun = from_start at (lines (drop at s))
 
   module _ (i : ℕ) where
-    end_past : length s ≤ i → end_from at i (lines (drop i s)) ≡ LineFound.Broken
+    end_past : length s ≤ i → end_from at i (lines (drop i s)) ≡ None
     end_past h = ap (end_from at i) (line_none s i h) ∙ from_none at i
 
-    end_long : at + longest_line < i → end_from at i (lines (drop i s)) ≡ LineFound.Broken
+    end_long : at + longest_line < i → end_from at i (lines (drop i s)) ≡ None
     end_long h = from_long at i h _
 
     -- the search has stopped, at the end of the text or behind the longest line
-    pub end_stopped : min (length s) (at + suc longest_line) ≤ i → end_from at i (lines (drop i s)) ≡ LineFound.Broken
+    pub end_stopped : min (length s) (at + suc longest_line) ≤ i → end_from at i (lines (drop i s)) ≡ None
     end_stopped h = go (leb (length s) i) refl
       where
-        go : (t : Bool) → leb (length s) i ≡ t → end_from at i (lines (drop i s)) ≡ LineFound.Broken
+        go : (t : Bool) → leb (length s) i ≡ t → end_from at i (lines (drop i s)) ≡ None
         go true e = end_past (leb-true _ _ e)
         go false e = end_long (omega (arith, leb-false (length s) i e))
 
@@ -106,11 +107,19 @@ module _ (s : Text) (at : ℕ) where
       lines_at : (byte_at s i ≡ line_feed → ⊥) → lines (drop i s) ≡ grown (byte_at s i) (lines (drop (i + 1) s))
       lines_at n = rw (add-one i, drop-cons s i 0 z) (lines_later (byte_at s i) (drop (suc i) s) (ne_eqb _ _ n))
 
-      pub end_here : byte_at s i ≡ line_feed → i ≤ at + longest_line → end_from at i (lines (drop i s)) ≡ LineFound.Sound i
+      pub end_here : byte_at s i ≡ line_feed → i ≤ at + longest_line → end_from at i (lines (drop i s)) ≡ Some i
       end_here e h = rw (drop-cons s i 0 z, lines_first (byte_at s i) (drop (suc i) s) (eq-eqb _ _ e)) (from_feed at i h _)
 
-      pub end_outside : plain_byte (byte_at s i) ≡ false → (byte_at s i ≡ line_feed → ⊥) → end_from at i (lines (drop i s)) ≡ LineFound.Broken
+      pub end_outside : plain_byte (byte_at s i) ≡ false → (byte_at s i ≡ line_feed → ⊥) → end_from at i (lines (drop i s)) ≡ None
       end_outside h n = ap (end_from at i) (lines_at n) ∙ from_grown_outside at i (byte_at s i) (λ t. outside_first (byte_at s i) t h) _
+
+      -- a byte that is not plain ends the line, if it is an LF
+      pub end_tested : plain_byte (byte_at s i) ≡ false → i ≤ at + longest_line → end_from at i (lines (drop i s)) ≡ then_some (eqb (byte_at s i) line_feed) i
+      end_tested h k = go (eqb (byte_at s i) line_feed) refl
+        where
+          go : (t : Bool) → eqb (byte_at s i) line_feed ≡ t → end_from at i (lines (drop i s)) ≡ then_some t i
+          go true e = end_here (eqb-true _ _ e) k
+          go false e = end_outside h (eqb-false _ _ e)
 
       pub end_onward : plain_byte (byte_at s i) ≡ true → end_from at i (lines (drop i s)) ≡ end_from at (i + 1) (lines (drop (i + 1) s))
       end_onward h = ap (end_from at i) (lines_at (plain_unfed (byte_at s i) h)) ∙ from_grown at i (byte_at s i) h _
@@ -147,11 +156,11 @@ pub record BrokenLine (s : Text) (at : ℕ) : Type 0 where
 
 -- the end of a first line, if it is sound or not
 module _ (at : ℕ) (l : Line) (ls : List Line) where
-  first_sound : sound l ≡ true → first_end at (l ∷ ls) ≡ LineFound.Sound (at + length (content l))
+  first_sound : sound l ≡ true → first_end at (l ∷ ls) ≡ Some (at + length (content l))
   unfolding first_end
   first_sound e = rw (e, first_end) refl
 
-  first_broken : sound l ≡ false → first_end at (l ∷ ls) ≡ LineFound.Broken
+  first_broken : sound l ≡ false → first_end at (l ∷ ls) ≡ None
   unfolding first_end
   first_broken e = rw (e, first_end) refl
 
@@ -163,7 +172,7 @@ sound_unended : (l : Text) → sound (unterminated l) ≡ false
 unfolding sound
 sound_unended l = refl
 
-first_none : (at : ℕ) → first_end at [] ≡ LineFound.Broken
+first_none : (at : ℕ) → first_end at [] ≡ None
 unfolding first_end
 first_none at = refl
 
@@ -184,22 +193,22 @@ module _ (s : Text) (at : ℕ) where
         fed = sym (get_or-drop at s (length l) 0) ∙ c.fed;
       }
 
-  pub sound_found : (end : ℕ) → sound_end s at ≡ LineFound.Sound end → SoundLine s at end
+  pub sound_found : (end : ℕ) → sound_end s at ≡ Some end → SoundLine s at end
   unfolding sound_end
   sound_found end e = go (lines (drop at s)) refl e
     where
-      tested : (t : Bool) (l : Text) (ls : List Line) → sound (terminated l) ≡ t → lines (drop at s) ≡ terminated l ∷ ls → first_end at (terminated l ∷ ls) ≡ LineFound.Sound end → SoundLine s at end
+      tested : (t : Bool) (l : Text) (ls : List Line) → sound (terminated l) ≡ t → lines (drop at s) ≡ terminated l ∷ ls → first_end at (terminated l ∷ ls) ≡ Some end → SoundLine s at end
       tested true l ls h f g =
           let n : at + length l ≡ end = cc (first_sound at (terminated l) ls h, content_whole l) in
           subst (SoundLine s at) n (whole_line l ls f h)
       tested false l ls h f g = absurd (let z : ◌≡◌ {A = ℕ} 0 1 = cc (first_broken at (terminated l) ls h) in omega arith)
 
-      go : (ms : List Line) → lines (drop at s) ≡ ms → first_end at ms ≡ LineFound.Sound end → SoundLine s at end
+      go : (ms : List Line) → lines (drop at s) ≡ ms → first_end at ms ≡ Some end → SoundLine s at end
       go [] f g = absurd (let z : ◌≡◌ {A = ℕ} 0 1 = cc (first_none at) in omega arith)
       go (terminated l ∷ ls) f g = tested (sound (terminated l)) l ls refl f g
       go (unterminated l ∷ ls) f g = absurd (let z : ◌≡◌ {A = ℕ} 0 1 = cc (first_broken at (unterminated l) ls (sound_unended l)) in omega arith)
 
-  pub broken_found : sound_end s at ≡ LineFound.Broken → at < length s → BrokenLine s at
+  pub broken_found : sound_end s at ≡ None → at < length s → BrokenLine s at
   unfolding sound_end
   broken_found e h = record { first = m.0; others = m.1; cut = cut; broken = go (sound m.0) refl }
     where

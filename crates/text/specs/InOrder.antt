@@ -1,6 +1,5 @@
 -- "Every line is key=value, in this order": lines read one after another, each by what it is to be. Assumes nothing.
-use Rattle.std.specs.Prelude.{ℕ, zero, suc, ◌+◌, true, false, List, [], ◌∷◌, drop}
-use Rattle.std.proofs.Math.Option.{none, some}
+use Rattle.std.specs.Prelude.{ℕ, zero, suc, ◌+◌, true, false, List, [], ◌∷◌, drop, None, Some}
 use Rattle.whole.specs.Refusals.{broken_line, wrong_key, wrong_number}
 use Rattle.terms.specs.Bytes.{Text}
 use Rattle.terms.specs.Parsed.{got, bad, word}
@@ -50,7 +49,7 @@ key_line key value at (l ∷ ls) = elim (sound l) [
 
 -- a line with a number in a range
 unfoldable pub number_line : Text → ℕ → ℕ → Reader ℕ
-number_line key lowest highest = key_line key (λ at value. elim (number_in lowest highest value) [ none ↦ wrong wrong_number | some n ↦ right n ])
+number_line key lowest highest = key_line key (λ at value. elim (number_in lowest highest value) [ None ↦ wrong wrong_number | Some n ↦ right n ])
 
 -- so many of a thing, each by its index, and with what is carried from one to the next
 unfoldable pub each : {A S : Type 0} → ℕ → ℕ → S → (ℕ → S → Reader (A × S)) → Reader (List A × S)

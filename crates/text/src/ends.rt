@@ -1,9 +1,7 @@
 // "lines of at most 120 bytes from 32 to 126, each ended by LF"
-ghost use Rattle.std.specs.Prelude.{true, ◌≡◌, ◌+◌, ◌-◌, ◌≤◌, min, length, take, drop};
+ghost use Rattle.std.specs.Prelude.{true, ◌≡◌, ◌-◌, ◌≤◌, length, take, drop};
 ghost use Rattle.text.specs.Lines as Lines;
 ghost use Rattle.text.specs.Vocabulary.LineEnds as LineEnds;
-
-use crate::LineFound;
 
 pub const LONGEST_LINE: usize = 120;
 
@@ -15,22 +13,14 @@ const GROUP: usize = 8;
 fn is_plain(b: u8) -> bool
     ensures { result ≡ Lines.plain_byte b }
 {
-    32 <= b && b <= 126
+    (32..=126).contains(&b)
 }
 
 // Whether a group of bytes is plain.
-#[tactic(auto, using(crate::proofs::Plain::plain_more), unfolding(crate::specs::Lines::plain_bytes))]
-fn is_plain_group(text: &[u8], at: usize) -> bool
-    requires { at + 8 ≤ length text.now }
-    ensures { result ≡ Lines.plain_bytes (take 8 (drop at text.now)) }
+fn are_plain(group: &[u8]) -> bool
+    ensures { result ≡ Lines.plain_bytes group.now }
 {
-    let mut plain = true;
-    let mut i = 0;
-    while i < GROUP {
-        plain = plain & is_plain(text[at + i]);
-        i += 1;
-    }
-    plain
+    group.iter().fold(true, |plain, &b| plain & is_plain(b))
 }
 
 // A place behind plain bytes: past each whole group of them, up to the first that is not.
@@ -40,45 +30,28 @@ fn past_groups(text: &[u8], at: usize, stop: usize) -> usize
     ensures within { (at ≤ result) × (result ≤ stop) }
     ensures plain { Lines.plain_bytes (take (result - at) (drop at text.now)) ≡ true }
 {
+    // A loop: by `chunks_exact` and `take_while` the lines of a text take 2 to 7 in 100 instructions more.
     let mut i = at;
-    while stop - i >= GROUP {
-        if !is_plain_group(text, i) {
-            return i;
-        }
+    while stop - i >= GROUP && are_plain(&text[i..i + GROUP]) {
         i += GROUP;
     }
     i
 }
 
-// Where the search for a line's LF stops: behind its latest place, or at the end of the text.
-fn search_end(long: usize, at: usize) -> usize
-    requires { at ≤ long }
-    ensures { result ≡ min long (at + Lines.longest_line + 1) }
-{
-    if long - at > LONGEST_LINE {
-        at + LONGEST_LINE + 1
-    } else {
-        long
-    }
-}
-
 // The end of the line that begins at a place, found and tested in one pass.
-#[tactic(auto, using(crate::proofs::SoundEnds::end_from_plain, crate::proofs::SoundEnds::end_here, crate::proofs::SoundEnds::end_onward, crate::proofs::SoundEnds::end_outside, crate::proofs::SoundEnds::end_stopped))]
-pub fn sound_line(text: &[u8], at: usize) -> LineFound
+#[tactic(auto, using(crate::proofs::SoundEnds::end_from_plain, crate::proofs::SoundEnds::end_onward, crate::proofs::SoundEnds::end_stopped, crate::proofs::SoundEnds::end_tested))]
+pub fn sound_line(text: &[u8], at: usize) -> Option<usize>
     requires { at ≤ length text.now }
     ensures { result ≡ LineEnds.sound_end text.now at }
 {
-    let stop = search_end(text.len(), at);
-    let mut i = past_groups(text, at, stop);
-    while i < stop {
+    // Behind the latest place of the line's LF, or at the end of the text.
+    let stop = at + (text.len() - at).min(LONGEST_LINE + 1);
+    // By index: with `position` in place of this loop the lines of a text take 2 to 5 in 100 instructions more.
+    for i in past_groups(text, at, stop)..stop {
         let b = text[i];
         if !is_plain(b) {
-            if b == b'\n' {
-                return LineFound::Sound(i);
-            }
-            return LineFound::Broken;
+            return (b == b'\n').then_some(i);
         }
-        i += 1;
     }
-    LineFound::Broken // no LF: the line is too long, or the text has ended
+    None // no LF: the line is too long, or the text has ended
 }

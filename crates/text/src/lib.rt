@@ -1,43 +1,46 @@
 // The lines of a text: where they end, their keys, their numbers.
 #![tactic(auto)]
 
+ghost use Rattle.std.specs.Prelude.{◌≡◌};
+ghost use Rattle.whole.specs.Vocabulary.Refusing.{number_of};
+
 pub mod ends;
 pub mod key_lines;
 pub mod numbers;
 pub mod reader;
 
+use whole::refusals::Refusal;
+
 // A number given back, with the line of the text that it names: 0 where it names none.
-#[derive(Clone, Copy)]
+// Two numbers, and no `Refusal`: this is the answer that document 01 defines and that C packs, and an acceptance is one of them.
+#[derive(Clone, Copy, Debug, PartialEq, Eq)]
 pub struct Verdict {
     pub number: u32,
     pub line: u32,
 }
 
 // Where reading stands: the place in the text where a line begins, and its number, "counted from 1".
-#[derive(Clone, Copy)]
+#[derive(Clone, Copy, Debug, PartialEq, Eq)]
 pub struct At {
     pub place: usize,
     pub line: u32,
 }
 
-// What reading lines gives: the number that refuses one of them, unless it is broken, and where it begins; or a number and where the next line
-// begins. The latter number is the line's, the open blocks after it, or how many code lines were read in all.
-#[derive(Clone, Copy)]
-pub enum Read {
-    Failed(u32, At),
-    Got(u32, At),
+// What refuses a line, unless it is broken, and where the line begins.
+#[derive(Clone, Copy, Debug, PartialEq, Eq)]
+pub struct Failed {
+    pub refusal: Refusal,
+    pub at: At,
 }
 
-// A line whose key is the expected one: where its value begins and ends; or the number that refuses it, unless it is broken.
-#[derive(Clone, Copy)]
-pub enum Keyed {
-    Failed(u32),
-    Value(usize, usize),
-}
+// "an acceptance and every number from 10 on give line 0"
+impl From<Refusal> for Verdict {
+    ghost from_gives = { λ refusal v. v ≡ record { number = number_of refusal; line = 0 } };
 
-// The end of a sound line, which is its LF's place; or the line is too long, has a byte outside, or has no LF.
-#[derive(Clone, Copy)]
-pub enum LineFound {
-    Sound(usize),
-    Broken,
+    fn from(refusal: Refusal) -> Verdict {
+        Verdict {
+            number: refusal.number(),
+            line: 0,
+        }
+    }
 }

@@ -3,52 +3,54 @@
 // every caller.
 ghost use Rattle.std.specs.Prelude.{◌≡◌, ◌≤◌, length};
 ghost use Rattle.terms.specs.Vocabulary.Answers as Answers;
-ghost use Rattle.text.specs.Vocabulary.LineEnds as LineEnds;
 ghost use Rattle.text.specs.Vocabulary.KeyLines as KeyLines;
+ghost use Rattle.text.specs.Vocabulary.LineEnds as LineEnds;
 
-use crate::{LineFound, ends, numbers};
-use terms::ReadNumber;
+use crate::{ends, numbers};
+use terms::Parsed;
 
 // A text with the place where reading stands.
-#[derive(Drop)]
+#[derive(Clone, Copy, Debug)]
 pub struct Reader<'a> {
     pub text: &'a [u8],
     pub at: usize,
 }
 
-// A reader that stands at a place of a text.
-fn reader_at<'a>(text: &'a [u8], at: usize) -> Reader<'a>
-    ensures { (result.text ≡ text.entry) × (result.at ≡ at) }
-{
-    Reader { text, at }
-}
+impl<'a> Reader<'a> {
+    // A reader that stands at a place of a text.
+    fn new(text: &'a [u8], at: usize) -> Reader<'a>
+        ensures { (result.text ≡ text.entry) × (result.at ≡ at) }
+    {
+        Reader { text, at }
+    }
 
-// The end of the line that begins where the reader stands.
-fn line<'a>(reader: Reader<'a>) -> LineFound
-    requires { reader.at ≤ length reader.text.now }
-    ensures { result ≡ LineEnds.sound_end reader.entry.text.now reader.entry.at }
-{
-    ends::sound_line(reader.text, reader.at)
+    // The end of the line that begins where the reader stands.
+    fn line(self) -> Option<usize>
+        requires { self.at ≤ length self.text.now }
+        ensures { result ≡ LineEnds.sound_end self.entry.text.now self.entry.at }
+    {
+        ends::sound_line(self.text, self.at)
+    }
+
+    // The number that stands where the reader does, from its lowest to its highest, if an LF is behind it.
+    fn number(self, lowest: u32, highest: u32) -> Parsed<u32>
+        ensures { result ≡ Answers.as_result (KeyLines.fed_number lowest highest self.entry.text.now self.entry.at) }
+    {
+        numbers::fed_number(self.text, self.at, lowest, highest)
+    }
 }
 
 // The end of the line that begins at a place of a text.
-pub fn line_at(text: &[u8], at: usize) -> LineFound
+pub fn line_at(text: &[u8], at: usize) -> Option<usize>
     requires { at ≤ length text.now }
     ensures { result ≡ LineEnds.sound_end text.now at }
 {
-    line(reader_at(text, at))
+    Reader::new(text, at).line()
 }
 
-// The number that stands where the reader does, from its lowest to its highest, if an LF is behind it.
-fn number<'a>(reader: Reader<'a>, lowest: u32, highest: u32) -> ReadNumber
-    ensures { result ≡ Answers.as_number (KeyLines.fed_number lowest highest reader.entry.text.now reader.entry.at) }
+// The number that stands at a place of a text, from its lowest to its highest, if an LF is behind it.
+pub fn number_at(text: &[u8], at: usize, lowest: u32, highest: u32) -> Parsed<u32>
+    ensures { result ≡ Answers.as_result (KeyLines.fed_number lowest highest text.now at) }
 {
-    numbers::fed_number(reader.text, reader.at, lowest, highest)
-}
-
-// The same of the number at a place of a text.
-pub fn number_at(text: &[u8], at: usize, lowest: u32, highest: u32) -> ReadNumber
-    ensures { result ≡ Answers.as_number (KeyLines.fed_number lowest highest text.now at) }
-{
-    number(reader_at(text, at), lowest, highest)
+    Reader::new(text, at).number(lowest, highest)
 }

@@ -5,7 +5,6 @@ use mathlib.Core.List.{List, [], ◌∷◌, map}
 use mathlib.Core.Path.{◌≡◌, refl, sym, ap, ◌∙◌}
 use native.Mathlib.Numerals.{add-one}
 use native.Mathlib.Omega.{arith}
-use borrow.Author.Tests.{eq-eqb, ne_eqb}
 use lib.Dec.{eqb}
 use lib.ListN.{length, take, drop, drop_of_length-le}
 use lib.Seq.{drop-cons, drop-drop}
@@ -19,7 +18,7 @@ use Rattle.transcript.specs.Vocabulary.InputLines.{line_length}
 
 -- a first byte that is an LF, or not
 module _ (b : ℕ) (s : Text) where
-  length_fed : eqb b line_feed ≡ true → line_length (b ∷ s) ≡ 0
+  pub length_fed : eqb b line_feed ≡ true → line_length (b ∷ s) ≡ 0
   unfolding line_length
   length_fed e = rw (e, line_length)
 
@@ -27,20 +26,12 @@ module _ (b : ℕ) (s : Text) where
   unfolding line_length
   length_more e = rw (e, line_length)
 
-length_none : line_length [] ≡ 0
+  pub length_next : eqb b line_feed ≡ false → line_length (b ∷ s) ≡ line_length s + 1
+  length_next e = length_more e ∙ sym (add-one (line_length s))
+
+pub length_none : line_length [] ≡ 0
 unfolding line_length
 length_none = refl
-
--- the same by the byte at a place
-module _ (s : Text) (i : ℕ) where
-  pub length_here : i < length s → byte_at s i ≡ line_feed → line_length (drop i s) ≡ 0
-  length_here h e = rw (drop-cons s i 0 h) (length_fed (byte_at s i) (drop (suc i) s) (eq-eqb _ _ e))
-
-  pub length_onward : i < length s → (byte_at s i ≡ line_feed → ⊥) → line_length (drop i s) ≡ suc (line_length (drop (i + 1) s))
-  length_onward h e = rw (add-one i, drop-cons s i 0 h) (length_more (byte_at s i) (drop (suc i) s) (ne_eqb _ _ e))
-
-  pub length_ended : length s ≤ i → line_length (drop i s) ≡ 0
-  length_ended h = ap line_length (drop_of_length-le s h) ∙ length_none
 
 -- a line ends within its text
 pub line_within : (s : Text) → line_length s ≤ length s

@@ -1,14 +1,16 @@
 -- Items stored one after another: a run of stores behind another, and what is at the front. Assumes nothing.
-use Prim.Native.Nat.{ℕ, suc, ◌+◌, ◌-◌, ◌≤◌, ◌<◌}
-use mathlib.Core.List.{List, [], ◌∷◌, ◌++◌}
-use mathlib.Core.Path.{◌≡◌, sym, ap, ap₂, subst, ◌∙◌}
+use Prim.Native.Nat.{ℕ, suc, ◌+◌, ◌-◌, ◌≤◌}
+use mathlib.Core.List.{List, [], ◌∷◌, ◌++◌, append_assoc}
+use mathlib.Core.Path.{◌≡◌, refl, sym, ap, ap₂, subst, ◌∙◌}
 use native.Mathlib.Nat.{zero-add}
-use native.Mathlib.Numerals.{add-one}
 use native.Mathlib.Omega.{arith}
-use lib.ListN.{length, take, drop, get_or, set, drop_of_length-le, length-append, length-drop, take-append-drop}
-use lib.Seq.{sets, sets-eq, set_split, drop-cons, drop-drop, drop_at, drop-set-lt, take_at, length-take-le, take_all}
+use lib.ListN.{length, take, drop, set, length-append, length-drop, take-append-drop}
+use borrow.Rule.Slice.PartMut.{put_mid}
+use lib.Seq.{sets, sets-eq, drop-drop, drop-set-lt, take_at, length-take-le, take_all}
 use Rattle.terms.specs.Bytes.{Text}
-use Rattle.transcript.specs.Vocabulary.Front.{at_front, Wrote}
+use Rattle.session.specs.Shown.{shown_line}
+use Rattle.transcript.specs.Vocabulary.Front.{at_front, Adds}
+use Rattle.transcript.specs.declared.shown.Front.{Front}
 
 module _ {A : Type 0} where
   -- what is stored behind something else is stored with it
@@ -41,45 +43,41 @@ module _ {A : Type 0} where
       let k : n ≡ length items = sym (length-take-le n new h) ∙ ap length front in
       (k, sym (take-append-drop n new) ∙ ap₂ ◌++◌ front (behind ∙ ap (λ n. drop n old) k))
 
-  -- the item at a place is stored before those behind it
-  pub sets_onward : (old items : List A) (d : A) (at i : ℕ) → suc i ≤ length items
-      → sets (set old (at + i) (get_or items i d)) (at + (i + 1)) (drop (i + 1) items) ≡ sets old (at + i) (drop i items)
-  sets_onward old items d at i h =
-      let n : at + suc i ≡ suc (at + i) = omega arith in
-      rw (add-one i, drop-cons items i d h) (ap (λ k. sets (set old (at + i) (get_or items i d)) k (drop (suc i) items)) n)
-
-  pub sets_ended : (old items : List A) (at i : ℕ) → length items ≤ i → sets old at (drop i items) ≡ old
-  sets_ended old items at i h = ap (sets old at) (drop_of_length-le items h)
-
   -- the rest of a list is all of it
   pub take_rest : (n : ℕ) (l : List A) → take (length l - n) (drop n l) ≡ drop n l
   take_rest n l = take_all (length l - n) (drop n l) (omega (arith, length-drop n l))
 
-  -- what was stored last stands before what was stored behind it
-  pub drop_stored : (old : List A) (i : ℕ) (a : A) → i < length old → drop i (set old i a) ≡ a ∷ drop (i + 1) old
-  drop_stored old i a h =
-      rw (add-one i) (ap (drop i) (set_split old i a h) ∙ drop_at (take i old) (a ∷ drop (suc i) old) i (length-take-le i old (omega arith)))
+  -- a part of a list, copied over
+  pub put_is : (old items new : List A) (at : ℕ) → new ≡ items → at + length items ≤ length old → put_mid at (at + length items - at) old new ≡ sets old at items
+  put_is old items new at e h =
+      let n : at + length items - at ≡ length items = omega arith in
+      rw (e, n, drop-drop (length items) at old) (sym (append_assoc (take at old) items (drop (at + length items) old)) ∙ sym (sets-eq items old at h))
 
--- bytes that were written, with some more behind them
-pub wrote_onward : {a old mid : Text} {at between : ℕ} → Wrote a old mid at between → (b : Text)
-    → (sets mid between b ≡ sets old at (a ++ b)) × (between + length b ≡ at + length (a ++ b))
-wrote_onward {a} {old} {mid} {at} {between} f b = (
-  ap (λ m. sets m between b) f.put ∙ ap (λ n. sets (sets old at a) n b) f.behind ∙ sets_after old a b at,
-  omega (arith, f.behind, length-append a b),
-)
+-- bytes that were put there, and some more behind them
+pub adds_after : {a b : Text} {old mid new : Front} → Adds a old mid → Adds b mid new → Adds (a ++ b) old new
+adds_after {a} {b} {old} {mid} {new} f g =
+    record {
+      same_reference = g.same_reference ∙ f.same_reference;
+      room = g.room ∙ f.room;
+      put = g.put ∙ ap (λ m. sets m mid.at b) f.put ∙ ap (λ n. sets (sets old.out.now old.at a) n b) f.behind ∙ sets_after old.out.now a b old.at;
+      behind = omega (arith, f.behind, g.behind, length-append a b);
+    }
 
--- which are written too
-pub wrote_after : {a b old mid new : Text} {at between end : ℕ} → Wrote a old mid at between → Wrote b mid new between end → Wrote (a ++ b) old new at end
-wrote_after {b = b} f g =
-    let w = wrote_onward f b in
-    record { put = g.put ∙ w.0; behind = g.behind ∙ w.1 }
+pub adds_none : (f : Front) → Adds [] f f
+adds_none f = record { same_reference = refl; room = refl; put = refl; behind = omega arith }
 
 -- the same bytes, said in another way
-pub wrote_as : {a b old new : Text} {at end : ℕ} → a ≡ b → Wrote a old new at end → Wrote b old new at end
-wrote_as {old = old} {new = new} {at = at} {end = end} e f = subst (λ t. Wrote t old new at end) e f
+pub adds_as : {a b : Text} {old new : Front} → a ≡ b → Adds a old new → Adds b old new
+adds_as {old = old} {new = new} e f = subst (λ t. Adds t old new) e f
 
--- what was written from the first place on stands at the front
-pub wrote_front : {text old new : Text} {end : ℕ} → Wrote text old new 0 end → end ≤ length old → (end ≡ length text) × (new ≡ at_front text old)
-wrote_front {text} {old} {new} {end} f h =
-    let n : end ≡ length text = omega (arith, f.behind) in
-    (n, f.put ∙ sets_front old text (omega arith))
+-- a line, where its number is known by another name
+pub line_as : (name : Text) (m n : ℕ) {old new : Front} → Adds (shown_line name m) old new → m ≡ n → Adds (shown_line name n) old new
+line_as name m n f e = adds_as (ap (shown_line name) e) f
+
+-- what was put into memory from its beginning on stands at the front
+module _ {text : Text} {old new : Front} (f : Adds text old new) (z : old.at ≡ 0) where
+  pub front_length : new.at ≡ length text
+  front_length = omega (arith, f.behind)
+
+  pub front_is : new.at ≤ length old.out.now → new.out.now ≡ at_front text old.out.now
+  front_is h = f.put ∙ ap (λ i. sets old.out.now i text) z ∙ sets_front old.out.now text (omega (arith, front_length))

@@ -1,59 +1,61 @@
-// A number as a decimal, and a line that names it, put in memory from a place on.
-ghost use Rattle.std.specs.Prelude.{◌≡◌, ◌+◌, ◌≤◌, ◌<◌, length};
+// Bytes written one after another at the front of memory that a caller lent: words, numbers as decimals, and lines of both.
+ghost use Rattle.std.specs.Prelude.{◌≡◌, ◌+◌, ◌≤◌, length};
 ghost use Rattle.session.specs.Shown as Shown;
-ghost use Rattle.transcript.specs.Vocabulary.Front as Front;
+ghost use Rattle.transcript.specs.Vocabulary.Front.{Adds};
 
-// The digits of the greatest number, 4294967295.
-const MOST_DIGITS: usize = 10;
+// The memory, and how many bytes stand at its front.
+#[derive(Drop)]
+pub(crate) struct Front<'o> {
+    out: &'o mut [u8],
+    at: usize,
+}
 
-// Bytes put from a place on, and the place behind them.
-fn put(bytes: &[u8], out: &mut [u8], at: usize) -> usize
-    requires { at + length bytes.now ≤ length out.old }
-    ensures { Front.Wrote bytes.now out.old out.new at result }
-{
-    let mut i = 0;
-    while i < bytes.len() {
-        out[at + i] = bytes[i];
-        i += 1;
+impl<'o> Front<'o> {
+    // Nothing is written yet.
+    pub(crate) fn new(out: &'o mut [u8]) -> Front<'o>
+        ensures same_reference { result.out.ghost_name ≡ out.entry.ghost_name }
+        ensures out { result.out.now ≡ out.old }
+        ensures at { result.at ≡ 0 }
+    {
+        Front { out, at: 0 }
     }
-    at + i
-}
 
-// The byte of a digit.
-fn digit(d: u32) -> u8
-    requires { d < 10 }
-    ensures { result ≡ 48 + d }
-{
-    b'0' + d as u8
-}
-
-// A number as a decimal: the digits are found from the last to the first.
-#[tactic(auto, using(crate::proofs::NumbersShown::a_place, crate::proofs::NumbersShown::a_tenth, crate::proofs::NumbersShown::shown_begun, crate::proofs::NumbersShown::shown_first, crate::proofs::NumbersShown::shown_more, crate::proofs::Storing::drop_stored, crate::proofs::Storing::take_rest, crate::proofs::Storing::wrote_as))]
-fn number(n: u32, out: &mut [u8], at: usize) -> usize
-    requires { at + 10 ≤ length out.old }
-    ensures wrote { Front.Wrote (Shown.shown n) out.old out.new at result }
-    ensures upper_bound { result ≤ at + 10 }
-{
-    let mut digits = [0; MOST_DIGITS];
-    let mut first = MOST_DIGITS - 1;
-    let mut left = n;
-    while left >= 10 {
-        digits[first] = digit(left % 10);
-        first -= 1;
-        left = left / 10;
+    // How many bytes were written.
+    pub(crate) fn written(&self) -> usize
+        ensures { result ≡ self.now.at }
+    {
+        self.at
     }
-    digits[first] = digit(left);
-    put(&digits[first..], out, at)
-}
 
-// A name with its `=`, a number, and an LF: at most 20 bytes.
-pub(crate) fn line(name: &[u8], n: u32, out: &mut [u8], at: usize) -> usize
-    requires name_len_bound { length name.now ≤ 9 }
-    requires at_in_bounds { at + 20 ≤ length out.old }
-    ensures wrote { Front.Wrote (Shown.shown_line name.now n) out.old out.new at result }
-    ensures upper_bound { result ≤ at + 20 }
-{
-    let named = put(name, out, at);
-    let numbered = number(n, out, named);
-    put(b"\n", out, numbered)
+    // Some bytes more.
+    fn put(&mut self, bytes: &[u8])
+        requires { self.old.at + length bytes.now ≤ length self.old.out.now }
+        ensures { Adds bytes.now self.old self.new }
+    {
+        let end = self.at + bytes.len();
+        self.out[self.at..end].copy_from_slice(bytes);
+        self.at = end;
+    }
+
+    // A number as a decimal.
+    #[tactic(auto, using(crate::proofs::NumbersShown::shown_decimal, crate::proofs::Storing::adds_as))]
+    fn number(&mut self, n: u32)
+        requires { self.old.at + 10 ≤ length self.old.out.now }
+        ensures adds { Adds (Shown.shown n) self.old self.new }
+        ensures upper_bound { self.new.at ≤ self.old.at + 10 }
+    {
+        self.put(itoa::Buffer::new().format(n).as_bytes());
+    }
+
+    // A name with its `=`, a number, and an LF: at most 20 bytes.
+    pub(crate) fn line(&mut self, name: &[u8], n: u32)
+        requires name_len_bound { length name.now ≤ 9 }
+        requires at_in_bounds { self.old.at + 20 ≤ length self.old.out.now }
+        ensures adds { Adds (Shown.shown_line name.now n) self.old self.new }
+        ensures upper_bound { self.new.at ≤ self.old.at + 20 }
+    {
+        self.put(name);
+        self.number(n);
+        self.put(b"\n");
+    }
 }

@@ -3,5 +3,6 @@ pub mod Both
 pub mod Each
 pub mod Open
 pub mod Ranges
+pub mod Refusing
 pub mod Tables
 pub mod Tested

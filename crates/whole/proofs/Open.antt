@@ -1,9 +1,8 @@
 -- A proof that computes with the definitions of this crate says `unfolding whole_open`. Assumes nothing.
 use Rattle.whole.specs.Plain
 use Rattle.whole.specs.Whole
-use Rattle.whole.specs.Vocabulary.Naturals
 
 unfoldable pub whole_open : Unit {0}
 unfolding Plain.all_to Plain.all_below Plain.only_if Whole.in_range Whole.within Whole.eq_z Whole.apply Whole.applied Whole.is_true Whole.natural
-    Naturals.as_natural Whole.nat Whole.between
+    Whole.nat Whole.between
 whole_open = tt

@@ -1,8 +1,9 @@
 -- What tests say: a number lies between bounds, a test is asked under a condition, of each number of a range.
 -- Each law is stated both ways. Assumes nothing.
+use Rattle.std.specs.Prelude.{Option, None, Some, Result, Err, IsErrAnd}
+use Rattle.std.proofs.lemmas.Result.{err_from_is_err_and}
 use Prim.Native.Nat.{ℕ, zero, suc, ◌≤◌, ◌<◌}
 use mathlib.Core.Bool.{Bool, true, false, ◌||◌, false≢true}
-use mathlib.Core.Option.{Option, none, some}
 use mathlib.Core.Path.{◌≡◌, refl, sym, ap, subst, ◌∙◌}
 use native.Mathlib.Omega.{arith}
 use borrow.Author.Tests.{leb-true, le-leb, eqb-true, eqb-false, eq-eqb}
@@ -12,8 +13,12 @@ use Rattle.whole.specs.Plain.{all_below, whenever, ◌>>=◌}
 use Rattle.whole.specs.Whole.{between, eq_z, nat, natural}
 use Rattle.whole.proofs.Both.{both_left, both_right, both}
 
+-- what the exit of a `?` gives: the refusal that it met
+pub passed_on : {T E : Type 0} {r : Result T E} {e : E} → IsErrAnd r (λ y. y ≡ e) → r ≡ Err e
+passed_on {r = r} h = let w = err_from_is_err_and r h in w.1 ∙ ap Err w.2
+
 -- nothing is something
-pub no_some : {A : Type 0} {a : A} → ◌≡◌ {A = Option A} none (some a) → ⊥
+pub no_some : {A : Type 0} {a : A} → ◌≡◌ {A = Option A} None (Some a) → ⊥
 no_some e = let z : ◌≡◌ {A = ℕ} 0 1 = cc in omega arith
 
 -- a test does not pass and fail
@@ -53,11 +58,11 @@ unfolding eq_z
 equalled z n e = subst (λ y. eq_z y (pos n) ≡ true) (sym e) (eq-eqb n n refl)
 
 -- a cell that counts, by its number
-pub natural_of : (z : ℤ) → Counts z → natural z ≡ some (nat z)
+pub natural_of : (z : ℤ) → Counts z → natural z ≡ Some (nat z)
 unfolding natural nat
 natural_of z e = ap natural e
 
-pub of_natural : (z : ℤ) (n : ℕ) → natural z ≡ some n → z ≡ pos n
+pub of_natural : (z : ℤ) (n : ℕ) → natural z ≡ Some n → z ≡ pos n
 unfolding natural
 of_natural (pos k) n e = cc
 of_natural (negsuc k) n e = absurd (no_some e)
@@ -109,6 +114,6 @@ module _ (test : ℕ → Bool) where
   below_each (suc n) h = rw (h n (omega arith), all_below) (below_each n (λ i k. h i (omega arith)))
 
 -- what may be missing was there
-pub found : {A B : Type 0} (x : Option A) (k : A → Option B) (b : B) → (x >>= k) ≡ some b → (a : A) × (x ≡ some a) × (k a ≡ some b)
-found none k b e = absurd (no_some e)
-found (some a) k b e = (a, refl, e)
+pub found : {A B : Type 0} (x : Option A) (k : A → Option B) (b : B) → (x >>= k) ≡ Some b → (a : A) × (x ≡ Some a) × (k a ≡ Some b)
+found None k b e = absurd (no_some e)
+found (Some a) k b e = (a, refl, e)

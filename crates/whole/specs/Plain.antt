@@ -1,6 +1,5 @@
 -- Plain helpers that the definitions of every layer use: tests that join, and tests over a range of numbers. Assumes nothing.
-use Rattle.std.specs.Prelude.{ℕ, zero, suc, Bool, true, false, ◌&&◌, List, [], ◌∷◌}
-use Rattle.std.proofs.Math.Option.{Option, none, some}
+use Rattle.std.specs.Prelude.{ℕ, zero, suc, Bool, true, false, ◌&&◌, List, [], ◌∷◌, Option, None, Some}
 
 infixl 10 ◌>>=◌
 -- the test holds of each number from 1 to n
@@ -25,10 +24,10 @@ whenever false b = true
 
 -- a number that passed a test, or none
 unfoldable pub only_if : Bool → ℕ → Option ℕ
-only_if true n = some n
-only_if false n = none
+only_if true n = Some n
+only_if false n = None
 
 -- what may be missing, used where it is there: `do` joins several
 abbrev pub ◌>>=◌ : {A B : Type 0} → Option A → (A → Option B) → Option B
-◌>>=◌ none k = none
-◌>>=◌ (some a) k = k a
+◌>>=◌ None k = None
+◌>>=◌ (Some a) k = k a

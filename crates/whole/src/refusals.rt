@@ -1,74 +1,151 @@
 // "Numbers given back", each once and by its condition.
+ghost use Rattle.std.specs.Prelude.{◌≡◌};
+ghost use Rattle.whole.specs.Vocabulary.Refusing as Refusing;
 
-// "0 is acceptance."
+use std::error::Error;
+use std::fmt;
+
+/// Why a text, a configuration, a list of answers, a budget or a choice is refused.
+#[derive(Clone, Copy, Debug, PartialEq, Eq)]
+pub enum Refusal {
+    /// 1: "text too long (line 0)"
+    TextTooLong,
+    /// 2: "line too long, byte outside, or no LF"
+    BrokenLine,
+    /// 3: "wrong key, text ended early, lines left over"
+    WrongKey,
+    /// 4: "a number outside code: its form, its range, or the 512"
+    WrongNumber,
+    /// 5: "code value outside the grammar, its numbers and variables included"
+    WrongCode,
+    /// 6: "blocks unmatched or too deep, last line"
+    WrongBlocks,
+    /// 10: "cells not 2,370"
+    CellsNotAll,
+    /// 11: "not a configuration of this model"
+    NoConfiguration,
+    /// 12: "kind, or object or label not in use"
+    NotInUse,
+    /// 13: "answers length differs"
+    AnswersDiffer,
+    /// 14: "budget over 10,000"
+    BudgetTooLarge,
+    /// 20: "arrive: stage not 1"
+    NotInvoked,
+    /// 21: "bind: stage not 2"
+    NotQueued,
+    /// 22: "no such method"
+    NoSuchMethod,
+    /// 23: "start: stage not 3"
+    NotBound,
+    /// 24: "object busy"
+    ObjectBusy,
+    /// 25: "not ready"
+    NotReady,
+    /// 26: "deliver: stage not 5"
+    NotAnswered,
+    /// 27: "exec: object idle"
+    ObjectIdle,
+    /// 28: "line past the method's end"
+    PastTheEnd,
+    /// 29: "a value out of range"
+    OutOfRange,
+    /// 30: "callee is no object"
+    CalleeNoObject,
+    /// 31: "object rows full"
+    ObjectRowsFull,
+    /// 32: "call rows full"
+    CallRowsFull,
+    /// 33: "reply not in"
+    ReplyNotIn,
+}
+
+/// The number of an acceptance: "0 is acceptance."
 pub const ACCEPTED: u32 = 0;
 
-// "text too long (line 0)"
-pub const TEXT_TOO_LONG: u32 = 1;
+impl Refusal {
+    /// The number that document 01 gives it: 1 to 6 of a text, 10 to 14 of what is lent beside it, 12 and 20 to 33 of a choice.
+    #[tactic(auto, unfolding(crate::specs::Vocabulary::Refusing::number_of))]
+    pub fn number(self) -> u32
+        ensures { result ≡ Refusing.number_of self }
+    {
+        match self {
+            Refusal::TextTooLong => 1,
+            Refusal::BrokenLine => 2,
+            Refusal::WrongKey => 3,
+            Refusal::WrongNumber => 4,
+            Refusal::WrongCode => 5,
+            Refusal::WrongBlocks => 6,
+            Refusal::CellsNotAll => 10,
+            Refusal::NoConfiguration => 11,
+            Refusal::NotInUse => 12,
+            Refusal::AnswersDiffer => 13,
+            Refusal::BudgetTooLarge => 14,
+            Refusal::NotInvoked => 20,
+            Refusal::NotQueued => 21,
+            Refusal::NoSuchMethod => 22,
+            Refusal::NotBound => 23,
+            Refusal::ObjectBusy => 24,
+            Refusal::NotReady => 25,
+            Refusal::NotAnswered => 26,
+            Refusal::ObjectIdle => 27,
+            Refusal::PastTheEnd => 28,
+            Refusal::OutOfRange => 29,
+            Refusal::CalleeNoObject => 30,
+            Refusal::ObjectRowsFull => 31,
+            Refusal::CallRowsFull => 32,
+            Refusal::ReplyNotIn => 33,
+        }
+    }
+}
 
-// "line too long, byte outside, or no LF"
-pub const BROKEN_LINE: u32 = 2;
+impl fmt::Display for Refusal {
+    fn fmt<W: fmt::Write>(&self, f: &mut fmt::Formatter<W>) -> fmt::Result {
+        match self {
+            Refusal::TextTooLong => write!(f, "text too long (line 0)"),
+            Refusal::BrokenLine => write!(f, "line too long, byte outside, or no LF"),
+            Refusal::WrongKey => write!(f, "wrong key, text ended early, lines left over"),
+            Refusal::WrongNumber => write!(
+                f,
+                "a number outside code: its form, its range, or the 512"
+            ),
+            Refusal::WrongCode => write!(
+                f,
+                "code value outside the grammar, its numbers and variables included"
+            ),
+            Refusal::WrongBlocks => write!(f, "blocks unmatched or too deep, last line"),
+            Refusal::CellsNotAll => write!(f, "cells not 2,370"),
+            Refusal::NoConfiguration => write!(f, "not a configuration of this model"),
+            Refusal::NotInUse => write!(f, "kind, or object or label not in use"),
+            Refusal::AnswersDiffer => write!(f, "answers length differs"),
+            Refusal::BudgetTooLarge => write!(f, "budget over 10,000"),
+            Refusal::NotInvoked => write!(f, "arrive: stage not 1"),
+            Refusal::NotQueued => write!(f, "bind: stage not 2"),
+            Refusal::NoSuchMethod => write!(f, "no such method"),
+            Refusal::NotBound => write!(f, "start: stage not 3"),
+            Refusal::ObjectBusy => write!(f, "object busy"),
+            Refusal::NotReady => write!(f, "not ready"),
+            Refusal::NotAnswered => write!(f, "deliver: stage not 5"),
+            Refusal::ObjectIdle => write!(f, "exec: object idle"),
+            Refusal::PastTheEnd => write!(f, "line past the method's end"),
+            Refusal::OutOfRange => write!(f, "a value out of range"),
+            Refusal::CalleeNoObject => write!(f, "callee is no object"),
+            Refusal::ObjectRowsFull => write!(f, "object rows full"),
+            Refusal::CallRowsFull => write!(f, "call rows full"),
+            Refusal::ReplyNotIn => write!(f, "reply not in"),
+        }
+    }
+}
 
-// "wrong key, text ended early, lines left over"
-pub const WRONG_KEY: u32 = 3;
+impl Error for Refusal {}
 
-// "a number outside code: its form, its range, or the 512"
-pub const WRONG_NUMBER: u32 = 4;
-
-// "code value outside the grammar, its numbers and variables included"
-pub const WRONG_CODE: u32 = 5;
-
-// "blocks unmatched or too deep, last line"
-pub const WRONG_BLOCKS: u32 = 6;
-
-// "cells not 2,370"
-pub const CELLS_NOT_ALL: u32 = 10;
-
-// "not a configuration of this model"
-pub const NO_CONFIGURATION: u32 = 11;
-
-// "kind, or object or label not in use"
-pub const NOT_IN_USE: u32 = 12;
-
-// "answers length differs"
-pub const ANSWERS_DIFFER: u32 = 13;
-
-// "budget over 10,000"
-pub const BUDGET_TOO_LARGE: u32 = 14;
-
-// "arrive: stage not 1"
-pub const NOT_INVOKED: u32 = 20;
-
-// "bind: stage not 2; no such method"
-pub const NOT_QUEUED: u32 = 21;
-
-pub const NO_SUCH_METHOD: u32 = 22;
-
-// "start: stage not 3; object busy; not ready"
-pub const NOT_BOUND: u32 = 23;
-
-pub const OBJECT_BUSY: u32 = 24;
-
-pub const NOT_READY: u32 = 25;
-
-// "deliver: stage not 5"
-pub const NOT_ANSWERED: u32 = 26;
-
-// "exec: object idle; line past the method's end"
-pub const OBJECT_IDLE: u32 = 27;
-
-pub const PAST_THE_END: u32 = 28;
-
-// "a value out of range"
-pub const OUT_OF_RANGE: u32 = 29;
-
-// "callee is no object"
-pub const CALLEE_NO_OBJECT: u32 = 30;
-
-// "object rows full; call rows full"
-pub const OBJECT_ROWS_FULL: u32 = 31;
-
-pub const CALL_ROWS_FULL: u32 = 32;
-
-// "reply not in"
-pub const REPLY_NOT_IN: u32 = 33;
+/// The number of an answer: 0 where it accepts, and else the refusal's.
+#[tactic(auto, unfolding(crate::specs::Vocabulary::Refusing::number_given))]
+pub fn number_given(answer: Result<(), Refusal>) -> u32
+    ensures { result ≡ Refusing.number_given answer }
+{
+    match answer {
+        Ok(()) => ACCEPTED,
+        Err(refusal) => refusal.number(),
+    }
+}

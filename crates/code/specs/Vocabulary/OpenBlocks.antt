@@ -1,9 +1,6 @@
 -- Vocabulary of the code: the open blocks of a method as one number: a digit from 1 to 3 for each, the innermost lowest, base 4. No digit is 0, so that the number
 -- tells how many blocks are open. Assumes nothing.
-use Rattle.std.specs.Prelude.{ℕ, ◌+◌, ◌*◌, List, [], ◌∷◌}
-use Rattle.std.proofs.Math.Option.{Option, none, some}
-use Rattle.code.specs.declared.BlocksAfter.{BlocksAfter}
-use Rattle.code.specs.declared.BlocksAfter.TheVariants as After
+use Rattle.std.specs.Prelude.{ℕ, ◌+◌, ◌*◌, List, [], ◌∷◌, Option, None, Some}
 use Rattle.code.specs.declared.Shape.{Shape}
 use Rattle.code.specs.declared.Statement as Declared
 use Rattle.code.specs.declared.Statement.TheVariants as Said
@@ -18,9 +15,9 @@ packed_blocks [] = 0
 packed_blocks (b ∷ bs) = block_digit b + 4 * packed_blocks bs
 
 -- what the code gives for the open blocks after a line
-unfoldable pub as_blocks : Option (List Block) → BlocksAfter
-as_blocks (some bs) = After.Open (packed_blocks bs)
-as_blocks none = After.Unmatched
+unfoldable pub as_blocks : Option (List Block) → Option ℕ
+as_blocks (Some bs) = Some (packed_blocks bs)
+as_blocks None = None
 
 -- what a line is, by what the code read of it
 unfoldable pub shape_said : Declared.Statement → Shape

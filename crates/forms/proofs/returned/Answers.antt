@@ -4,18 +4,18 @@ use Rattle.whole.proofs.Ranges.{handed}
 use Rattle.layout.specs.Layout.{written, to_call, value}
 use Rattle.layout.specs.Stages.{staged}
 use Rattle.rules.specs.Exec as Exec
-use Rattle.forms.proofs.Written.{all_written, then, staged_then, worked_out_lem, did_not_fit}
+use Rattle.forms.proofs.Written.{all_written, then, staged_then, there, worked_out_lem, did_not_fit}
 use Rattle.forms.proofs.returned.Goals as goal
 
-pub returns-in-OutOfRange : goal.returns-in-OutOfRange
-returns-in-OutOfRange c m st = did_not_fit _ _ _ c.in-OutOfRange.is
+pub returns-in_err-z : goal.returns-in_err-z
+returns-in_err-z c m st = did_not_fit _ _ _ _ _ c.in_err-z.ensures.value c.from_residual.ensures.1
 
-pub returns-in-Value : goal.returns-in-Value
+pub returns : goal.returns
 unfolding Exec.returned Exec.freed
-returns-in-Value c m st =
+returns c m st =
     let cells = c.args.cells.now in
     let l = c.args.here.label.0 in
-    worked_out_lem _ _ _ _ c.in-Value.z _ c.in-Value.is
+    worked_out_lem _ _ _ _ c.in_ok-z.z _ (there _ _ _ c.in_ok-z.ensures.value)
     (all_written _ _ _
     (then _ _ _ _
     (staged_then _ _ _ _ (c.to_call.ensures ∙ ap (λ z. written cells (to_call cells l value z)) (handed _ _ (omega arith) refl)) _ _

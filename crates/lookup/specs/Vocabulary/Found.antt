@@ -1,8 +1,6 @@
 -- Vocabulary of the code: what it finds of an object's class, of a call's body and of where the call stands, and what that says of the model.
 -- Assumes nothing.
-use Rattle.std.specs.Prelude.{ℕ, ◌+◌, ◌≤◌, ◌<◌, List, [], ◌≡◌, ℤ, length, take, drop}
-use Rattle.std.proofs.Math.Option.{Option, none, some}
-use Rattle.std.proofs.Math.ListN.{get_elem?}
+use Rattle.std.specs.Prelude.{ℕ, ◌+◌, ◌≤◌, ◌<◌, List, [], ◌≡◌, ℤ, length, take, drop, Option, None, Some, slice_get}
 use Rattle.whole.specs.Plain.{◌>>=◌}
 use Rattle.whole.specs.Whole.{natural}
 use Rattle.layout.specs.Layout.{Cells}
@@ -15,32 +13,21 @@ use Rattle.code.specs.Blocks.{through_all}
 use Rattle.code.specs.Vocabulary.Shapes.{shapes_in}
 use Rattle.model.specs.Bounds.{all_lines}
 use Rattle.model.specs.declared.Row.{Row}
-use Rattle.model.specs.Accepted.{AcceptedModel}
 use Rattle.model.specs.Model.{Model, Class, Method, takes, binds_to}
-use Rattle.model.specs.Vocabulary.Belonging.{Belongs}
-use Rattle.model.specs.Vocabulary.Table.{Table, row_at, method_row, table_size}
+use Rattle.model.specs.Vocabulary.Table.{Table, row_at, method_row}
 use Rattle.cells.specs.Standing.{body_of, standing_of}
 use Rattle.lookup.specs.declared.Body.{Body}
-use Rattle.lookup.specs.declared.BodyFound.{BodyFound}
-use Rattle.lookup.specs.declared.BodyFound.TheVariants as Body
-use Rattle.lookup.specs.declared.ClassFound.{ClassFound}
-use Rattle.lookup.specs.declared.ClassFound.TheVariants as Class
 use Rattle.lookup.specs.declared.Standing.{Standing}
-use Rattle.lookup.specs.declared.StandingFound.{StandingFound}
-use Rattle.lookup.specs.declared.StandingFound.TheVariants as Standing
 
--- a table that belongs to some text, which gives an accepted model
-pub record Told (t : Table) : Type 0 where
-  pub sized : length t ≡ table_size
-  pub text : Text
-  pub model : Model
-  pub rows : Belongs text t model
-  pub accepted : AcceptedModel model
+-- a number in a cell that is one of the first so many: that number; none, where it is past them or below 0
+unfoldable pub IndexSaid : ℤ → ℕ → Option ℕ → Type 0
+IndexSaid z n None = (i : ℕ) → natural z ≡ Some i → n ≤ i
+IndexSaid z n (Some i) = (natural z ≡ Some i) × (i < n)
 
 -- a class by the number in a cell: its index, or none
-unfoldable pub ClassSaid : Model → ℤ → ClassFound → Type 0
-ClassSaid m z Class.Nothing = (natural z >>= get_elem? m) ≡ none
-ClassSaid m z (Class.Is k) = (natural z ≡ some k) × (c : Class) × (get_elem? m k ≡ some c)
+unfoldable pub ClassSaid : Model → ℤ → Option ℕ → Type 0
+ClassSaid m z None = (natural z >>= slice_get m) ≡ None
+ClassSaid m z (Some k) = (natural z ≡ Some k) × (c : Class) × (slice_get m k ≡ Some c)
 
 -- a body that was found, by its class and its index there: what the code keeps of it is what the table tells
 pub record BodyIs (t : Table) (m : Model) (found : Option Method) (d : Body) : Type 0 where
@@ -48,9 +35,9 @@ pub record BodyIs (t : Table) (m : Model) (found : Option Method) (d : Body) : T
   pub method : ℕ
   pub class : Class
   pub body : Method
-  pub class_there : get_elem? m index ≡ some class
-  pub body_there : get_elem? class.methods method ≡ some body
-  pub is : found ≡ some body
+  pub class_there : slice_get m index ≡ Some class
+  pub body_there : slice_get class.methods method ≡ Some body
+  pub is : found ≡ Some body
   pub attrs : d.attrs ≡ class.attrs
   pub locals : d.locals ≡ body.locals
   pub count : d.count ≡ length body.code
@@ -63,20 +50,20 @@ taken b args = natural args >>= (λ n. takes n b)
 unfoldable pub bound_to : Model → ℕ → ℤ → ℤ → Option Method
 bound_to m k method args = natural method >>= (λ j. natural args >>= (λ n. binds_to m k j n))
 
-unfoldable pub BodySaid : Table → Model → Option Method → BodyFound → Type 0
-BodySaid t m found Body.Nothing = found ≡ none
-BodySaid t m found (Body.Is d) = BodyIs t m found d
+unfoldable pub BodySaid : Table → Model → Option Method → Option Body → Type 0
+BodySaid t m found None = found ≡ None
+BodySaid t m found (Some d) = BodyIs t m found d
 
 -- where a call stands
 pub record StandingIs (t : Table) (m : Model) (c : Cells) (l : ℕ) (d : Standing) : Type 0 where
   pub of : BodyIs t m (body_of m c l) d.body
   pub statement : Code
-  pub there : get_elem? of.body.code d.line ≡ some statement
-  pub stands : standing_of m c l ≡ some (record { body = of.body; at = d.line; statement = statement })
+  pub there : slice_get of.body.code d.line ≡ Some statement
+  pub stands : standing_of m c l ≡ Some (record { body = of.body; at = d.line; statement = statement })
 
-unfoldable pub StandingSaid : Table → Model → Cells → ℕ → StandingFound → Type 0
-StandingSaid t m c l Standing.Nothing = standing_of m c l ≡ none
-StandingSaid t m c l (Standing.At d) = StandingIs t m c l d
+unfoldable pub StandingSaid : Table → Model → Cells → ℕ → Option Standing → Type 0
+StandingSaid t m c l None = standing_of m c l ≡ None
+StandingSaid t m c l (Some d) = StandingIs t m c l d
 
 -- the shapes of a body's lines: its part of those of all lines
 unfoldable pub shapes_at : List ℕ → Body → List Shape
@@ -96,4 +83,4 @@ pub record Lined (x : List ℕ) (at : Standing) : Type 0 where
   pub few : at.body.count ≤ 64
   pub inside : at.body.first + at.body.count ≤ length x
   pub all : length x ≡ all_lines
-  pub close : through_all (shapes_at x at.body) [] ≡ some []
+  pub close : through_all (shapes_at x at.body) [] ≡ Some []

@@ -1,6 +1,5 @@
 -- Vocabulary of the code: the `new`s of a text, by the rows of its code lines. Assumes nothing.
-use Rattle.std.specs.Prelude.{ℕ, zero, suc, ◌+◌, ◌*◌, ◌/◌, ◌%◌, Bool, true, List, [], ◌∷◌, ◌++◌, ◌≡◌, eqb}
-use Rattle.std.proofs.Math.Option.{Option, none, some}
+use Rattle.std.specs.Prelude.{ℕ, zero, suc, ◌+◌, ◌*◌, ◌/◌, ◌%◌, Bool, true, List, [], ◌∷◌, ◌++◌, ◌≡◌, eqb, Option, None, Some}
 use Rattle.whole.specs.Lists.{EachFrom}
 use Rattle.model.specs.Bounds.{most_classes}
 use Rattle.model.specs.Judge.{given_to}
@@ -10,8 +9,8 @@ use Rattle.model.specs.Vocabulary.Table.{Table, row_at, class_row, code_row}
 
 -- a `new` as one number, of its class and of how many arguments there are; 0 for a line that is none
 unfoldable pub new_number : Option (ℕ × ℕ) → ℕ
-new_number none = 0
-new_number (some n) = 1 + n.0 + most_classes * n.1
+new_number None = 0
+new_number (Some n) = 1 + n.0 + most_classes * n.1
 
 -- the creation that such a number tells, at a line of the text
 unfoldable pub creation_told : ℕ → ℕ → List Creation

@@ -1,5 +1,5 @@
 -- Vocabulary of the code: the table of a text, by which later parts find its lines: a list of numbers, in rows of four. Assumes nothing.
-use Rattle.std.specs.Prelude.{ℕ, ◌+◌, ◌*◌, ◌<◌, List, ◌≡◌, length, get_or, set}
+use Rattle.std.specs.Prelude.{ℕ, ◌+◌, ◌*◌, ◌<◌, List, ◌≡◌, length, get_or, set, replicate}
 use Rattle.model.specs.Bounds.{all_lines}
 use Rattle.model.specs.declared.Row.{Row}
 
@@ -35,6 +35,13 @@ table_size = 2628
 -- a table and the shapes of the code lines, each as long as it is to be
 abbrev pub Sized : Table → List ℕ → Type 0
 Sized t x = (length t ≡ table_size) × (length x ≡ all_lines)
+
+-- a table and shapes of which nothing is written yet
+unfoldable pub no_rows : Table
+no_rows = replicate table_size 0
+
+unfoldable pub no_shapes : List ℕ
+no_shapes = replicate all_lines 0
 
 -- the four numbers of a row; a number that is not there reads as 0
 unfoldable pub row_at : Table → ℕ → Row

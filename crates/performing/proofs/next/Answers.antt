@@ -1,45 +1,71 @@
 -- `performing::next`: a choice by its kind and by what its number names.
-use Rattle.std.proofs.Common.{refl, sym, ap, ◌∙◌, arith}
-use Rattle.whole.proofs.Ranges.{handed}
-use Rattle.layout.specs.Stages.{object_of, label_of}
-use Rattle.layout.specs.Vocabulary.Found.{as_object, as_label}
-use Rattle.layout.proofs.Numbers.{label_some as some-label, label_none as none-label}
-use Rattle.model.specs.Vocabulary.Known.{model_of}
-use Rattle.forms.proofs.Written.{done_with}
-use Rattle.forms.proofs.MakingLaws.{same_done, refused_done, object_some, object_none}
-use Rattle.performing.specs.Vocabulary.Parts.{at_label}
-use Rattle.performing.proofs.Choosing.{label_within, kind_is, exec_none, exec_some, label_none, label_some}
+use Rattle.std.proofs.Common.{refl, arith}
+use Rattle.rules.specs.Kinds as Kinds
+use Rattle.rules.specs.Step.{ruled}
+use Rattle.performing.proofs.Choosing.{label_few, label_used, kindless, no_object, at_object, no_label, at_label}
 use Rattle.performing.proofs.next.Goals as goal
 
-pub returns-in-Nothing : goal.returns-in-Nothing
-returns-in-Nothing c =
-    let choice = c.args.choice in
-    let found = c.object_of.ensures ∙ ap (λ z. as_object (object_of c.args.cells.now z)) (handed choice.number _ (omega arith) refl) in
-    let is_exec = kind_is choice.kind 1 (record { sfits = omega arith }) (omega arith) c.if-choice-eq-EXEC.true in
-    refused_done _ _ _ (exec_none _ _ _ is_exec (object_none _ (sym found ∙ c.in-Nothing.is)))
+pub start-requires-clause-l_bound : goal.start-requires-clause-l_bound
+start-requires-clause-l_bound c =
+    label_few _ _ c.requires.cells_value _ (label_used _ _ _ _ c.label_of.ensures c.in_ok-label-in-Start.ensures.value)
 
-pub returns-in-At : goal.returns-in-At
-returns-in-At c =
-    let choice = c.args.choice in
-    let found = c.object_of.ensures ∙ ap (λ z. as_object (object_of c.args.cells.now z)) (handed choice.number _ (omega arith) refl) in
-    let is_exec = kind_is choice.kind 1 (record { sfits = omega arith }) (omega arith) c.if-choice-eq-EXEC.true in
-    same_done _ _ _ _ _ (exec_some _ _ _ _ is_exec (object_some _ _ (sym found ∙ c.in-At.is))) c.exec.ensures
+pub returns-in_err-try_from : goal.returns-in_err-try_from
+returns-in_err-try_from c = kindless _ _ _ (omega arith) (omega arith) _ _ c.in_err-try_from.ensures c.from_residual.ensures.1
 
-pub at_label-requires-clause-in_use : goal.at_label-requires-clause-in_use
-at_label-requires-clause-in_use c =
-    let found = c.label_of.ensures ∙ ap (λ z. as_label (label_of c.args.cells.now z)) (handed c.args.choice.number _ (omega arith) refl) in
-    label_within _ _ _ (some-label _ _ (sym found ∙ c.in-At-label_of.is))
+pub returns-in_err-object-in-Exec : goal.returns-in_err-object-in-Exec
+returns-in_err-object-in-Exec c =
+    no_object _ _ _ (omega arith) (omega arith) _ _ c.in_ok-try_from.ensures c.in-Exec.is refl _ c.object_of.ensures _ _
+    c.in_err-object-in-Exec.ensures.value c.from_residual-in_err-object-in-Exec.ensures.1
 
-pub returns-in-Nothing-label_of : goal.returns-in-Nothing-label_of
-returns-in-Nothing-label_of c =
-    let found = c.label_of.ensures ∙ ap (λ z. as_label (label_of c.args.cells.now z)) (handed c.args.choice.number _ (omega arith) refl) in
-    refused_done _ _ _ (label_none _ _ _ c.if-choice-eq-EXEC.false (none-label _ (sym found ∙ c.in-Nothing-label_of.is)))
+pub returns-in_ok-object-in-Exec : goal.returns-in_ok-object-in-Exec
+returns-in_ok-object-in-Exec c =
+    at_object _ _ _ (omega arith) (omega arith) _ _ c.in_ok-try_from.ensures c.in-Exec.is refl _ c.object_of.ensures _
+    c.in_ok-object-in-Exec.ensures.value _ _ c.exec.ensures
 
-pub returns-in-At-label_of : goal.returns-in-At-label_of
-returns-in-At-label_of c =
-    let cells = c.args.cells.now in
-    let choice = c.args.choice in
-    let found = c.label_of.ensures ∙ ap (λ z. as_label (label_of cells z)) (handed choice.number _ (omega arith) refl) in
-    same_done _ _ _ _ _ (label_some _ _ choice c.if-choice-eq-EXEC.false _ (some-label _ _ (sym found ∙ c.in-At-label_of.is)))
-    (done_with cells _ (λ z. at_label (model_of c.args.text.now) cells z c.in-At-label_of.l.0) _ _ _ (handed choice.kind _ (omega arith) refl)
-    c.at_label.ensures)
+pub returns-in_err-label-in-Arrive : goal.returns-in_err-label-in-Arrive
+unfolding Kinds.in_use
+returns-in_err-label-in-Arrive c =
+    no_label _ _ _ (omega arith) (omega arith) _ _ c.in_ok-try_from.ensures c.in-Arrive.is refl _ c.label_of.ensures _ _
+    c.in_err-label-in-Arrive.ensures.value c.from_residual-in_err-label-in-Arrive.ensures.1
+
+pub returns-in_ok-label-in-Arrive : goal.returns-in_ok-label-in-Arrive
+unfolding Kinds.in_use ruled
+returns-in_ok-label-in-Arrive c =
+    at_label _ _ _ (omega arith) (omega arith) _ _ c.in_ok-try_from.ensures c.in-Arrive.is refl _ c.label_of.ensures _
+    c.in_ok-label-in-Arrive.ensures.value _ _ c.arrive.ensures
+
+pub returns-in_err-label-in-Bind : goal.returns-in_err-label-in-Bind
+unfolding Kinds.in_use
+returns-in_err-label-in-Bind c =
+    no_label _ _ _ (omega arith) (omega arith) _ _ c.in_ok-try_from.ensures c.in-Bind.is refl _ c.label_of.ensures _ _
+    c.in_err-label-in-Bind.ensures.value c.from_residual-in_err-label-in-Bind.ensures.1
+
+pub returns-in_ok-label-in-Bind : goal.returns-in_ok-label-in-Bind
+unfolding Kinds.in_use ruled
+returns-in_ok-label-in-Bind c =
+    at_label _ _ _ (omega arith) (omega arith) _ _ c.in_ok-try_from.ensures c.in-Bind.is refl _ c.label_of.ensures _
+    c.in_ok-label-in-Bind.ensures.value _ _ (c.bind.ensures _ _ c.table.ensures.belongs)
+
+pub returns-in_err-label-in-Start : goal.returns-in_err-label-in-Start
+unfolding Kinds.in_use
+returns-in_err-label-in-Start c =
+    no_label _ _ _ (omega arith) (omega arith) _ _ c.in_ok-try_from.ensures c.in-Start.is refl _ c.label_of.ensures _ _
+    c.in_err-label-in-Start.ensures.value c.from_residual-in_err-label-in-Start.ensures.1
+
+pub returns-in_ok-label-in-Start : goal.returns-in_ok-label-in-Start
+unfolding Kinds.in_use ruled
+returns-in_ok-label-in-Start c =
+    at_label _ _ _ (omega arith) (omega arith) _ _ c.in_ok-try_from.ensures c.in-Start.is refl _ c.label_of.ensures _
+    c.in_ok-label-in-Start.ensures.value _ _ c.start.ensures
+
+pub returns-in_err-label-in-Deliver : goal.returns-in_err-label-in-Deliver
+unfolding Kinds.in_use
+returns-in_err-label-in-Deliver c =
+    no_label _ _ _ (omega arith) (omega arith) _ _ c.in_ok-try_from.ensures c.in-Deliver.is refl _ c.label_of.ensures _ _
+    c.in_err-label-in-Deliver.ensures.value c.from_residual-in_err-label-in-Deliver.ensures.1
+
+pub returns-in_ok-label-in-Deliver : goal.returns-in_ok-label-in-Deliver
+unfolding Kinds.in_use ruled
+returns-in_ok-label-in-Deliver c =
+    at_label _ _ _ (omega arith) (omega arith) _ _ c.in_ok-try_from.ensures c.in-Deliver.is refl _ c.label_of.ensures _
+    c.in_ok-label-in-Deliver.ensures.value _ _ c.deliver.ensures

@@ -1,21 +1,12 @@
 -- Vocabulary of the code: what the parts of a rule are that the code has functions of their own for, and what they take for known. Assumes nothing.
-use Rattle.std.specs.Prelude.{ℕ, ◌≤◌, ◌<◌, List, ◌≡◌, ℤ, pos}
-use Rattle.std.proofs.Math.Option.{none, some}
-use Rattle.whole.specs.declared.Worked.{Worked}
-use Rattle.whole.specs.declared.Worked.TheVariants.{Value}
-use Rattle.whole.specs.Refusals.{not_in_use, not_ready}
-use Rattle.whole.specs.Whole.{is_true}
+use Rattle.std.specs.Prelude.{ℕ, ◌≤◌, ◌<◌, List, ◌≡◌, pos, Some}
+use Rattle.whole.specs.Whole.{Worked}
 use Rattle.layout.specs.Layout.{Cells}
 use Rattle.layout.specs.Stages.{rows_in_use}
 use Rattle.code.specs.declared.Arguments.{Arguments}
 use Rattle.code.specs.declared.Statement as Declared
 use Rattle.code.specs.declared.Statement.TheVariants as Said
-use Rattle.model.specs.Model.{Model}
 use Rattle.cells.specs.Standing.{Standing, shapes_of}
-use Rattle.rules.specs.Kinds.{Kind, exec, arrive, bind, start, deliver, kind_of}
-use Rattle.rules.specs.Messages.{ready, started}
-use Rattle.rules.specs.Next.{Next, refused, moved, must, working}
-use Rattle.rules.specs.Step.{ruled}
 use Rattle.lookup.specs.declared.Standing as Kept
 use Rattle.lookup.specs.Vocabulary.Found.{shapes_at}
 
@@ -40,33 +31,19 @@ Small (Said.Return w) a = Unit {0}
 
 -- whether a call is ready at a statement, as the code has it
 unfoldable pub ready_said : Declared.Statement → Worked
-ready_said Said.Skip = Value (pos 1)
-ready_said (Said.Set x w) = Value (pos 1)
-ready_said (Said.New x k) = Value (pos 1)
-ready_said (Said.Call x w j) = Value (pos 1)
-ready_said (Said.Get x y) = Value (pos 1)
+ready_said Said.Skip = Some (pos 1)
+ready_said (Said.Set x w) = Some (pos 1)
+ready_said (Said.New x k) = Some (pos 1)
+ready_said (Said.Call x w j) = Some (pos 1)
+ready_said (Said.Get x y) = Some (pos 1)
 ready_said (Said.Await g) = g
-ready_said (Said.If w) = Value (pos 1)
-ready_said Said.Else = Value (pos 1)
-ready_said Said.Fi = Value (pos 1)
-ready_said (Said.While w) = Value (pos 1)
-ready_said Said.Od = Value (pos 1)
-ready_said (Said.Return w) = Value (pos 1)
+ready_said (Said.If w) = Some (pos 1)
+ready_said Said.Else = Some (pos 1)
+ready_said Said.Fi = Some (pos 1)
+ready_said (Said.While w) = Some (pos 1)
+ready_said Said.Od = Some (pos 1)
+ready_said (Said.Return w) = Some (pos 1)
 
--- a start in an idle callee
-unfoldable pub start_ready : Model → Cells → ℕ → ℕ → Next
-start_ready m c o l = working (ready m c o l) (λ z. must (is_true z) not_ready (moved (started c o l)))
-
--- a label in use, and a rule at it by the number of a kind; exec has an object
+-- a label in use
 abbrev pub InUse : Cells → ℕ → Type 0
 InUse c l = (1 ≤ l) × (l ≤ rows_in_use c)
-
-unfoldable pub labelled : Model → Cells → Kind → ℕ → Next
-labelled m c exec l = refused not_in_use
-labelled m c arrive l = ruled m c arrive l
-labelled m c bind l = ruled m c bind l
-labelled m c start l = ruled m c start l
-labelled m c deliver l = ruled m c deliver l
-
-unfoldable pub at_label : Model → Cells → ℤ → ℕ → Next
-at_label m c kind l = elim (kind_of kind) [ none ↦ refused not_in_use | some k ↦ labelled m c k l ]

@@ -1,56 +1,53 @@
--- Vocabulary of the code: what each reader of the code is to give: the grammar at the reading *values*, as the code's enum. Assumes nothing.
+-- Vocabulary of the code: what each reader of the code is to give, by any reading, and of a whole term its value. Assumes nothing.
 use Prim.Native.Char.{code}
-use Rattle.std.specs.Prelude.{ℕ, length}
-use Rattle.whole.specs.declared.Worked.{Worked}
+use Rattle.std.specs.Prelude.{ℕ}
+use Rattle.whole.specs.Whole.{Worked}
 use Rattle.layout.specs.Layout.{Cells}
 use Rattle.terms.specs.declared.Around.{Around}
+use Rattle.terms.specs.declared.Limits.{Limits}
 use Rattle.terms.specs.Vocabulary.Answers.{surroundings}
 use Rattle.terms.specs.Bytes.{Text}
-use Rattle.terms.specs.Expressions.{factor, product, sum, expression}
-use Rattle.terms.specs.Guards.{ampersand, bar, atom, conjunction, guard}
-use Rattle.terms.specs.Parsed.{Parsed, opened, repeated, joining}
-use Rattle.terms.specs.Values.{values, guard_values, joined}
+use Rattle.terms.specs.Expressions.{Reading, factor, product, sum, expression}
+use Rattle.terms.specs.Guards.{GuardReading, atom, conjunction, guard}
+use Rattle.terms.specs.Parsed.{Parsed, opened}
+use Rattle.terms.specs.Values.{values, guard_values}
 
--- of a text, in what it is read, at a place
+-- the parts of an expression, by a reading
+module _ {A : Type 0} (R : Reading A) (lim : Limits) (s : Text) where
+  -- an expression in brackets, by the byte that closes them
+  abbrev pub bracketed_at : ℕ → ℕ → ℕ → Parsed A
+  bracketed_at b = opened b s (expression R lim s)
+
+  module _ (left : ℕ) where
+    abbrev pub factor_at : ℕ → Parsed A
+    factor_at = factor R lim s (bracketed_at (code ")") left)
+
+    abbrev pub product_at : ℕ → Parsed A
+    product_at = product R lim s (bracketed_at (code ")") left)
+
+    abbrev pub sum_at : ℕ → Parsed A
+    sum_at = sum R lim s (bracketed_at (code ")") left)
+
+-- the parts of a guard
+module _ {A G : Type 0} (R : Reading A) (Q : GuardReading A G) (lim : Limits) (s : Text) (left : ℕ) where
+  -- a guard in round brackets
+  abbrev pub nested_at : ℕ → Parsed G
+  nested_at = opened (code ")") s (guard R Q lim s) left
+
+  abbrev pub atom_at : ℕ → Parsed G
+  atom_at = atom R Q lim s (bracketed_at R lim s (code "]") left) nested_at
+
+  abbrev pub conjunction_at : ℕ → Parsed G
+  conjunction_at = conjunction R Q lim s (bracketed_at R lim s (code "]") left) nested_at
+
+-- the values of an expression and a guard of a text, in what it is read, at a place, with so many brackets still allowed
 module _ (c : Cells) (a : Around) (s : Text) where
-  -- an expression and a guard, with so many brackets still allowed
   abbrev pub expression_read : ℕ → ℕ → Parsed Worked
   expression_read = expression (values (surroundings c a.here)) a.limits s
 
   abbrev pub guard_read : ℕ → ℕ → Parsed Worked
   guard_read = guard (values (surroundings c a.here)) (guard_values (surroundings c a.here)) a.limits s
 
-  -- each in brackets, by the byte that closes them
+  -- an expression in brackets, by the byte that closes them
   abbrev pub inside_read : ℕ → ℕ → ℕ → Parsed Worked
-  inside_read b = opened b s expression_read
-
-  abbrev pub nested_read : ℕ → ℕ → Parsed Worked
-  nested_read = opened (code ")") s guard_read
-
-  -- the parts of an expression
-  module _ (left : ℕ) where
-    abbrev pub factor_read : ℕ → Parsed Worked
-    factor_read = factor (values (surroundings c a.here)) a.limits s (inside_read (code ")") left)
-
-    abbrev pub product_read : ℕ → Parsed Worked
-    product_read = product (values (surroundings c a.here)) a.limits s (inside_read (code ")") left)
-
-    abbrev pub sum_read : ℕ → Parsed Worked
-    sum_read = sum (values (surroundings c a.here)) a.limits s (inside_read (code ")") left)
-
-    -- the parts of a guard, and what is joined to a first atom or conjunction
-    abbrev pub atom_read : ℕ → Parsed Worked
-    atom_read =
-        atom (values (surroundings c a.here)) (guard_values (surroundings c a.here)) a.limits s
-        (inside_read (code "]") left) (nested_read left)
-
-    abbrev pub conjoined_read : ℕ → Worked → Parsed Worked
-    conjoined_read = repeated (joining ampersand joined s atom_read) (length s)
-
-    abbrev pub conjunction_read : ℕ → Parsed Worked
-    conjunction_read =
-        conjunction (values (surroundings c a.here)) (guard_values (surroundings c a.here)) a.limits s
-        (inside_read (code "]") left) (nested_read left)
-
-    abbrev pub disjoined_read : ℕ → Worked → Parsed Worked
-    disjoined_read = repeated (joining bar joined s conjunction_read) (length s)
+  inside_read = bracketed_at (values (surroundings c a.here)) a.limits s

@@ -1,9 +1,10 @@
 -- Vocabulary of the code: what the code gives of a reading of lines: what refuses one of them, or the same place and what was read. Assumes nothing.
-use Rattle.std.specs.Prelude.{ℕ, ◌+◌, ◌≤◌, true, false, List, [], ◌∷◌, ◌≡◌, length, drop}
+use Rattle.std.specs.Prelude.{ℕ, ◌+◌, ◌≤◌, true, false, List, [], ◌∷◌, ◌≡◌, length, drop, Result, Ok, Err}
 use Rattle.whole.specs.Refusals.{broken_line, wrong_key}
+use Rattle.whole.specs.Vocabulary.Refusing.{number_of}
 use Rattle.terms.specs.Bytes.{Text}
 use Rattle.text.specs.declared.At.{At}
-use Rattle.text.specs.declared.Read.{Read}
+use Rattle.text.specs.declared.Failed.{Failed}
 use Rattle.text.specs.declared.Verdict.{Verdict}
 use Rattle.text.specs.InOrder.{LinesRead, failed, after, Reader}
 use Rattle.text.specs.Lines.{Line, lines, sound, longest_text}
@@ -31,9 +32,9 @@ abbrev pub fault : Text → ℕ → At → Verdict
 fault s n p = record { number = lowest_of n (lines (drop p.place s)); line = p.line }
 
 -- what the code gives of a reading: what refuses a line, or a number that fits what was read, and where the lines that are left begin
-unfoldable pub Tells : {A : Type 0} → Text → (A → ℕ → Type 0) → Read → LinesRead A → Type 0
-Tells s P (Read.Failed n p) x = x ≡ failed (fault s n p)
-Tells {A} s P (Read.Got n p) x = (a : A) × (x ≡ after a p.line (lines (drop p.place s))) × Placed s p × P a n
+unfoldable pub Tells : {A : Type 0} → Text → (A → ℕ → Type 0) → Result (ℕ × At) Failed → LinesRead A → Type 0
+Tells s P (Err f) x = x ≡ failed (fault s (number_of f.refusal) f.at)
+Tells {A} s P (Ok r) x = (a : A) × (x ≡ after a r.1.line (lines (drop r.1.place s))) × Placed s r.1 × P a r.0
 
 -- a number in its range
 abbrev pub InRange : ℕ → ℕ → ℕ → ℕ → Type 0

@@ -6,11 +6,11 @@ use Rattle.rules.specs.Exec.{next_object, next_row, with_object, with_call}
 use Rattle.forms.proofs.MakingLaws.{padded_whole, rows_kept, running_made}
 use Rattle.forms.proofs.making.with_running.Goals as goal
 
-pub with_call-requires-clause-cells_bound : goal.with_call-requires-clause-cells_bound
-with_call-requires-clause-cells_bound c =
+pub with_call-requires : goal.with_call-requires
+with_call-requires c =
     let attributes = c.args.attributes.now in
     let kept =
-    ap rows_in_use (c.with_object.ensures attributes (padded_whole _ attributes c.requires.attributes_len))
+    ap rows_in_use (c.with_object.ensures attributes (padded_whole _ attributes c.told-attributes))
     ∙ rows_kept c.args.cells.now c.args.class _ attributes c.requires.cells_len c.requires.cells_bound in
     omega (arith, kept)
 
@@ -20,7 +20,7 @@ returns c m o l st zs runs v =
     let cells = c.args.cells.now in
     let attributes = c.args.attributes.now in
     let kept =
-    ap rows_in_use (c.with_object.ensures attributes (padded_whole _ attributes c.requires.attributes_len))
+    ap rows_in_use (c.with_object.ensures attributes (padded_whole _ attributes c.told-attributes))
     ∙ rows_kept cells c.args.class _ attributes c.requires.cells_len c.requires.cells_bound in
     let object = ap (◌+ 1) c.objects_in_use.ensures in
     let label = ap (◌+ 1) c.rows_in_use.ensures in

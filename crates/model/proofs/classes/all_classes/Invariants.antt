@@ -1,16 +1,10 @@
 -- `model::classes::all_classes`: what the loop keeps. What is left of the classes decides.
-use Prim.Native.Nat.{◌-◌}
 use Rattle.text.proofs.SoMany.{Passed}
 use Rattle.model.specs.ModelText.{read_class}
 use Rattle.model.specs.Vocabulary.Leaving.{between, ClassesLeft}
-use Rattle.model.specs.Vocabulary.Table.{Sized}
 use Rattle.model.proofs.classes.all_classes.Given as goal
 
 abbrev pub invariant-loop-k : goal.invariant-loop-k
 invariant-loop-k l =
-    Passed l.text (read_class l.count) l.count (between l.initial.table 0) l.initial.here l.here l.k (between l.table l.all)
-    (λ m. ClassesLeft l.text l.initial.table l.initial.shapes l.table l.shapes l.count l.k (m, between l.table l.all) l.all)
-    × Sized l.table l.shapes
-
-abbrev pub decreases-loop-k : goal.decreases-loop-k
-decreases-loop-k l = l.count - l.k
+    Passed l.text (read_class l.count) l.count (between l.initial.rows.table 0) l.initial.here l.here l.k (between l.rows.table l.all)
+    (λ m. ClassesLeft l.text l.initial.rows.table l.initial.rows.shapes l.rows.table l.rows.shapes l.count l.k (m, between l.rows.table l.all) l.all)

@@ -11,6 +11,3 @@ abbrev pub invariant-loop-i : goal.invariant-loop-i
 invariant-loop-i l =
     (m : Model) → GivenTold l.table m → length m ≡ l.classes
     → counts_judged m (creations_in l.table l.total) ≡ counts_judged m (creations_from l.table l.i (l.total - l.i))
-
-abbrev pub decreases-loop-i : goal.decreases-loop-i
-decreases-loop-i l = l.total - l.i

@@ -1,13 +1,6 @@
 -- `model::methods::all_lines`: what the loop keeps. What is left of the code lines decides.
-use Prim.Native.Nat.{◌-◌}
-use Rattle.model.specs.Vocabulary.Table.{Sized}
 use Rattle.model.proofs.Loops.{LinesPassed}
 use Rattle.model.proofs.methods.all_lines.Given as goal
 
 abbrev pub invariant-loop-i : goal.invariant-loop-i
-invariant-loop-i l =
-    LinesPassed l.text l.initial.table l.initial.shapes l.method l.initial.here l.table l.shapes l.here l.blocks l.i
-    × Sized l.table l.shapes
-
-abbrev pub decreases-loop-i : goal.decreases-loop-i
-decreases-loop-i l = l.method.count - l.i
+invariant-loop-i l = LinesPassed l.text l.initial.rows.table l.initial.rows.shapes l.method l.initial.here l.rows.table l.rows.shapes l.here l.blocks l.i

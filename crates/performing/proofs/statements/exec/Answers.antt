@@ -1,64 +1,67 @@
 -- `performing::statements::exec`: the running label, where its call stands, and the statement that was read there.
-use Rattle.std.proofs.Common.{ℕ, ◌≡◌, refl, sym, ap, ◌∙◌, arith}
+use Rattle.std.proofs.Common.{refl, sym, ap, subst, ◌∙◌}
+use Rattle.whole.specs.Vocabulary.Refusing as Refusing
 use Rattle.whole.proofs.Ranges.{handed}
 use Rattle.layout.specs.Stages.{label_of}
 use Rattle.layout.specs.Vocabulary.Found.{as_label}
 use Rattle.layout.proofs.Numbers.{label_some, label_none}
-use Rattle.code.specs.declared.ReadStatement.TheVariants as Read
-use Rattle.code.specs.declared.Statement as Declared
-use Rattle.lookup.specs.Vocabulary.Found.{StandingSaid}
-use Rattle.lookup.proofs.Reading.{few_classes, lined, line_shapes, line_said, line_beside, line_small}
-use Rattle.forms.proofs.MakingLaws.{same_done, refused_done}
-use Rattle.performing.proofs.Spoken.{small, exec_idle, exec_past, exec_performs}
-use Rattle.performing.proofs.Choosing.{stands_there}
+use Rattle.model.specs.Vocabulary.Belonging.{Belongs}
+use Rattle.model.specs.Vocabulary.Known.{model_of}
+use Rattle.rules.specs.Exec as Exec
+use Rattle.lookup.proofs.Reading.{few_classes, lined, line_shapes, line_said, line_small}
+use Rattle.forms.specs.Vocabulary.Done.{Done}
+use Rattle.forms.proofs.MakingLaws.{same_done}
+use Rattle.forms.proofs.Written.{there, not_found}
+use Rattle.performing.proofs.Spoken.{small, read_still, same_left, same_right, read_fine, exec_idle, exec_past, exec_performs}
+use Rattle.performing.proofs.Choosing.{stands_nowhere, stands_kept}
 use Rattle.performing.proofs.statements.exec.Goals as goal
-
--- what was got is one statement, and no refusal
-got_is : (s t : Declared.Statement) → Read.Got s ≡ Read.Got t → s ≡ t
-got_is s t e = cc
-
-got_not : (s : Declared.Statement) (n : ℕ) → Read.Got s ≡ Read.Bad n → ⊥
-got_not s n e = let z : ◌≡◌ {A = ℕ} 0 1 = cc in omega arith
 
 pub performed-requires-clause-lined : goal.performed-requires-clause-lined
 performed-requires-clause-lined c =
-    let k = c.requires.known in
-    lined _ _ _ k _ _ _ (stands_there _ _ _ _ _ (c.standing_of.ensures _ _ k.rows) _ c.in-At-standing_of.is)
+    let st = stands_kept _ _ _ _ _ (c.standing_of.ensures _ _ c.table-table.ensures.belongs) _ _ c.program.view_is c.table-table.ensures.value refl _ (there _ _ _ c.in_ok-at.ensures.value) in
+    lined _ _ _ c.program.invariant _ _ _ st
 
 pub performed-requires-clause-small : goal.performed-requires-clause-small
 performed-requires-clause-small c =
-    let k = c.requires.known in
-    let h = stands_there _ _ _ _ _ (c.standing_of.ensures _ _ k.rows) _ c.in-At-standing_of.is in
-    let said = line_said _ _ _ k _ _ _ h _ _ c.statement-code.ensures in
-    small _ (few_classes _ _ _ k) _ (line_small _ _ _ k _ _ _ h _) _ _ (got_is _ _ (sym c.in-Got.is ∙ said))
-    (line_beside _ _ _ k _ _ _ h _ _ c.statement-code.ensures)
+    let st = stands_kept _ _ _ _ _ (c.standing_of.ensures _ _ c.table-table.ensures.belongs) _ _ c.program.view_is c.table-table.ensures.value refl _ (there _ _ _ c.in_ok-at.ensures.value) in
+    let said = read_still _ _ _ _ c.map_err.ensures.cases (line_said _ _ _ c.program.invariant _ _ _ st _ _ c.statement.ensures) in
+    small _ (few_classes _ _ _ c.program.invariant) _ (line_small _ _ _ c.program.invariant _ _ _ st _) _ _
+    (same_left _ _ _ c.in_ok-statement.was said) (same_right _ _ _ c.in_ok-statement.was said)
 
-pub returns-in-Nothing : goal.returns-in-Nothing
-returns-in-Nothing c =
+pub returns-in_err-label : goal.returns-in_err-label
+unfolding Refusing.number_of
+returns-in_err-label c =
     let cells = c.args.cells.now in
-    let found = c.label_of.ensures ∙ ap (λ z. as_label (label_of cells z)) (handed _ _ c.of_object.type_inv c.of_object.ensures) in
-    refused_done _ _ _ (exec_idle _ _ _ (label_none _ (sym found ∙ c.in-Nothing.is)))
+    let running = c.of_object-running in
+    let found = c.label_of.ensures ∙ ap (λ z. as_label (label_of cells z)) (handed _ _ running.type_inv running.ensures) in
+    not_found _ _ _ _ _ _ c.in_err-label.ensures.value c.from_residual.ensures.1 (λ none. exec_idle _ _ _ (label_none _ (sym found ∙ none)))
 
-pub returns-in-Nothing-standing_of : goal.returns-in-Nothing-standing_of
-unfolding StandingSaid
-returns-in-Nothing-standing_of c =
+pub returns-in_err-at : goal.returns-in_err-at
+unfolding Refusing.number_of
+returns-in_err-at c =
     let cells = c.args.cells.now in
-    let found = c.label_of.ensures ∙ ap (λ z. as_label (label_of cells z)) (handed _ _ c.of_object.type_inv c.of_object.ensures) in
-    refused_done _ _ _ (exec_past _ _ _ _ (label_some _ _ (sym found ∙ c.in-At.is)) (c.in-Nothing-standing_of.ensures _ _ c.requires.known.rows))
+    let running = c.of_object-running in
+    let found = c.label_of.ensures ∙ ap (λ z. as_label (label_of cells z)) (handed _ _ running.type_inv running.ensures) in
+    let label = label_some _ _ (sym found ∙ there _ _ _ c.in_ok-label.ensures.value) in
+    not_found _ _ _ _ _ _ c.in_err-at.ensures.value c.from_residual-in_err-at.ensures.1
+    (λ none. exec_past _ _ _ _ label (stands_nowhere _ _ _ _ _ (c.standing_of.ensures _ _ c.table-table.ensures.belongs) none))
 
-pub returns-in-Bad : goal.returns-in-Bad
-returns-in-Bad c =
-    let k = c.requires.known in
-    let h = stands_there _ _ _ _ _ (c.standing_of.ensures _ _ k.rows) _ c.in-At-standing_of.is in
-    absurd (got_not _ _ (sym (line_said _ _ _ k _ _ _ h _ _ c.statement-code.ensures) ∙ c.in-Bad.is))
+pub returns-in_err-statement : goal.returns-in_err-statement
+returns-in_err-statement c =
+    let st = stands_kept _ _ _ _ _ (c.standing_of.ensures _ _ c.table-table.ensures.belongs) _ _ c.program.view_is c.table-table.ensures.value refl _ (there _ _ _ c.in_ok-at.ensures.value) in
+    let said = read_still _ _ _ _ c.map_err.ensures.cases (line_said _ _ _ c.program.invariant _ _ _ st _ _ c.statement.ensures) in
+    absurd (read_fine _ _ _ said c.in_err-statement.was)
 
-pub returns-in-Got : goal.returns-in-Got
-returns-in-Got c =
-    let k = c.requires.known in
+pub returns : goal.returns
+returns c =
     let cells = c.args.cells.now in
-    let found = c.label_of.ensures ∙ ap (λ z. as_label (label_of cells z)) (handed _ _ c.of_object.type_inv c.of_object.ensures) in
-    let h = stands_there _ _ _ _ _ (c.standing_of.ensures _ _ k.rows) _ c.in-At-standing_of.is in
-    let said = line_said _ _ _ k _ _ _ h _ _ c.statement-code.ensures in
-    same_done _ _ _ _ _ (exec_performs _ _ _ _ (label_some _ _ (sym found ∙ c.in-At.is)) _ h.stands)
-    (c.performed.ensures _ _ _ _ k.rows (refl, line_shapes _ _ _ k _ _ _ h) (got_is _ _ (sym c.in-Got.is ∙ said))
-    (line_beside _ _ _ k _ _ _ h _ _ c.statement-code.ensures))
+    let running = c.of_object-running in
+    let found = c.label_of.ensures ∙ ap (λ z. as_label (label_of cells z)) (handed _ _ running.type_inv running.ensures) in
+    let label = label_some _ _ (sym found ∙ there _ _ _ c.in_ok-label.ensures.value) in
+    let st = stands_kept _ _ _ _ _ (c.standing_of.ensures _ _ c.table-table.ensures.belongs) _ _ c.program.view_is c.table-table.ensures.value refl _ (there _ _ _ c.in_ok-at.ensures.value) in
+    let said = read_still _ _ _ _ c.map_err.ensures.cases (line_said _ _ _ c.program.invariant _ _ _ st _ _ c.statement.ensures) in
+    let belongs = subst (λ p. Belongs p.text c.table-table.result (model_of p.text)) (sym c.program.view_is) c.table-table.ensures.belongs in
+    subst (λ p. Done cells (Exec.exec (model_of p.text) cells c.args.o.0) c.performed.result c.performed.new.cells) c.program.view_is
+    (same_done _ _ _ _ _ (exec_performs _ _ _ _ label _ st.stands)
+    (c.performed.ensures _ _ _ _ belongs (refl, line_shapes _ _ _ c.program.invariant _ _ _ st)
+    (same_left _ _ _ c.in_ok-statement.was said) (same_right _ _ _ c.in_ok-statement.was said)))

@@ -1,12 +1,12 @@
 -- `performing::statements::performed`: each arm does what the definition has at the statement that the code's was made from.
-use Rattle.std.proofs.Common.{ℕ, List, ◌≡◌, sym, ap₂, ◌∙◌}
+use Rattle.std.proofs.Common.{ℕ, List, ◌≡◌, refl, sym, ap₂, ◌∙◌}
 use Rattle.code.specs.Partners.{goes_to}
 use Rattle.cells.specs.Standing as Stands
 use Rattle.cells.specs.Standing.{shapes_of}
 use Rattle.lookup.specs.declared.Standing.{Standing}
 use Rattle.lookup.specs.Vocabulary.Found.{shapes_at}
 use Rattle.performing.specs.Vocabulary.Parts.{SameLine}
-use Rattle.performing.proofs.Spoken.{does, did}
+use Rattle.performing.proofs.Spoken.{does, did, did_either}
 use Rattle.performing.proofs.statements.performed.Goals as goal
 
 -- the line that was found is the one that the definition has
@@ -16,7 +16,7 @@ to_same x at st r h e = ap₂ goes_to h.1 h.0 ∙ sym e
 
 pub returns-in-Skip : goal.returns-in-Skip
 unfolding does
-returns-in-Skip c s m st w b at e f = did m _ _ _ st _ _ _ w _ _ c.in-Skip.is e f (λ ws g. c.onward.ensures m st at.0)
+returns-in-Skip c s m st w b at e f = did_either m _ _ _ st _ _ _ _ w _ _ c.in-Skip.is (λ ws. refl) e f (λ ws g. c.onward.ensures m st at.0)
 
 pub returns-in-Set : goal.returns-in-Set
 unfolding does
@@ -40,23 +40,13 @@ returns-in-Await c s m st w b at e f = did m _ _ _ st _ _ _ w _ _ c.in-Await.is 
 
 pub returns-in-If : goal.returns-in-If
 unfolding does
-returns-in-If c s m st w b at e f = did m _ _ _ st _ _ _ w _ _ c.in-If.is e f (λ ws g. c.branched.ensures m st at.0 (to_same _ _ st _ at c.goes_to.ensures))
+returns-in-If c s m st w b at e f =
+    did_either m _ _ _ st _ _ _ _ w _ _ c.in-If.is (λ ws. refl) e f (λ ws g. c.branched.ensures m st at.0 (to_same _ _ st _ at c.goes_to-in-If.ensures))
 
 pub returns-in-Else : goal.returns-in-Else
 unfolding does
-returns-in-Else c s m st w b at e f = did m _ _ _ st _ _ _ w _ _ c.in-Else.is e f (λ ws g. c.jumped.ensures m st (to_same _ _ st _ at c.goes_to-in-Else.ensures))
-
-pub returns-in-Fi : goal.returns-in-Fi
-unfolding does
-returns-in-Fi c s m st w b at e f = did m _ _ _ st _ _ _ w _ _ c.in-Fi.is e f (λ ws g. c.onward-in-Fi.ensures m st at.0)
-
-pub returns-in-While : goal.returns-in-While
-unfolding does
-returns-in-While c s m st w b at e f = did m _ _ _ st _ _ _ w _ _ c.in-While.is e f (λ ws g. c.branched-in-While.ensures m st at.0 (to_same _ _ st _ at c.goes_to-in-While.ensures))
-
-pub returns-in-Od : goal.returns-in-Od
-unfolding does
-returns-in-Od c s m st w b at e f = did m _ _ _ st _ _ _ w _ _ c.in-Od.is e f (λ ws g. c.jumped-in-Od.ensures m st (to_same _ _ st _ at c.goes_to-in-Od.ensures))
+returns-in-Else c s m st w b at e f =
+    did_either m _ _ _ st _ _ _ _ w _ _ c.in-Else.is (λ ws. refl) e f (λ ws g. c.jumped.ensures m st (to_same _ _ st _ at c.goes_to.ensures))
 
 pub returns-in-Return : goal.returns-in-Return
 unfolding does

@@ -4,5 +4,5 @@ use Rattle.text.proofs.KeyLines.{fault_sound}
 use Rattle.text.proofs.SoundEnds.{sound_found}
 use Rattle.text.proofs.key_lines.fault.Goals as goal
 
-pub returns-in-Sound : goal.returns-in-Sound
-returns-in-Sound c = sym (fault_sound _ _ _ _ (sound_found _ _ _ (sym c.line_at.ensures ∙ c.in-Sound.is)))
+pub returns-in-Some : goal.returns-in-Some
+returns-in-Some c = sym (fault_sound _ _ _ _ (sound_found _ _ _ (sym c.line_at.ensures ∙ c.in-Some.is)))

@@ -1,8 +1,7 @@
 -- `transcript::choices::digits_alone`: another digit fits, and the loop goes on. Assumes nothing.
-use mathlib.Core.Option.{some}
+use Rattle.std.specs.Prelude.{Some}
 use mathlib.Core.Path.{◌≡◌, sym, ◌∙◌}
 use native.Mathlib.Omega.{arith}
-use Rattle.whole.proofs.Ranges.{natural_some}
 use Rattle.terms.specs.Bytes.{byte_at, digit}
 use Rattle.terms.proofs.Bytes.{digit_is}
 use Rattle.transcript.proofs.DigitsAlone.{digits_more, tens, nine}
@@ -11,14 +10,17 @@ use Rattle.transcript.proofs.choices.digits_alone.Goals as goal
 -- the number before is below a billion, and the digit below ten
 pub overflow_add-n : goal.overflow_add-n
 overflow_add-n c =
-    let b = nine _ c.loop-i.i c.loop-i.invariant.1 (omega arith) in
-    let d = digit_is _ _ (natural_some _ _ (sym c.in-Is.ensures)) in
+    let b = nine _ _ c.loop-b.invariant.small (omega arith) in
+    let d = digit_is _ _ (sym c.digit.ensures ∙ c.in_ok-n.was) in
     omega arith
 
-pub loop-i-preserved : goal.loop-i-preserved
-loop-i-preserved c =
+pub loop-b-preserved : goal.loop-b-preserved
+loop-b-preserved c =
     let s = c.args.s.now in
-    let l = c.loop-i in
-    let f : digit (byte_at s l.i) ≡ some c.in-Is.d = natural_some _ _ (sym c.in-Is.ensures) in
-    let d = digit_is _ _ f in
-    (omega arith, tens l.n l.i c.in-Is.d l.invariant.1 d.1, sym (digits_more s l.n l.i c.in-Is.d c.loop-i-test.true f) ∙ l.invariant.2)
+    let l = c.loop-b in
+    let d = c.in_ok-n.field-0 in
+    let f : digit (byte_at s l.b-index) ≡ Some d = sym c.digit.ensures ∙ c.in_ok-n.was in
+    record {
+      small = tens l.n l.b-index d l.invariant.small (digit_is _ _ f).1;
+      same = sym (digits_more s l.n l.b-index d c.loop-b-test.true f) ∙ l.invariant.same;
+    }

@@ -1,23 +1,25 @@
 -- `transcript::reports::report`: the lines of the answers, and each of the four lines behind those before. Assumes nothing.
 use borrow.Author.Rules.{rules}
-use mathlib.Core.Path.{◌≡◌, ap, ◌∙◌}
 use native.Mathlib.Omega.{arith}
 use Rattle.whole.specs.Whole.{nat}
-use Rattle.whole.proofs.Ranges.{handed}
-use Rattle.layout.specs.Layout.{read, objects, calls}
-use Rattle.session.specs.Runner.{report}
-use Rattle.transcript.specs.Vocabulary.Front.{Wrote}
-use Rattle.transcript.proofs.Storing.{wrote_after, wrote_front}
+use Rattle.layout.specs.Layout as Layout
+use Rattle.terms.specs.Bytes.{bytes}
+use Rattle.session.specs.Shown.{shown_line}
+use Rattle.session.specs.Runner as Runner
+use Rattle.transcript.specs.Vocabulary.Front.{Adds}
+use Rattle.transcript.proofs.Reporting.{nat_handed}
+use Rattle.transcript.proofs.Storing.{adds_after, line_as, front_length, front_is}
 use Rattle.transcript.proofs.reports.report.Goals as goal
 
 pub returns : goal.returns
-unfolding report
+unfolding Runner.report
 returns c =
+    let answers = c.args.answers.now in
     let cells = c.args.cells.now in
-    -- the numbers of the last two lines are those of the cells
-    let o : c.natural.result ≡ nat (read cells objects) = c.natural.ensures ∙ ap nat (handed _ _ c.objects.type_inv c.objects.ensures) in
-    let k : c.natural-2.result ≡ nat (read cells calls) = c.natural-2.ensures ∙ ap nat (handed _ _ c.calls.type_inv c.calls.ensures) in
-    let written : Wrote (report c.args.answers.now cells) c.args.out.now c.line.new.out 0 c.line.result =
-    rw (← c.accepted_in.ensures.value, ← c.refused_in.ensures, ← o, ← k) (search (rules, wrote_after) depth 9) in
-    let front = wrote_front written (omega arith) in
-    record { value = front.0; out_after = front.1; upper_bound = omega arith }
+    let accepted : Adds (shown_line (bytes "accepted=") (Runner.accepted_in answers)) c.answer_lines.new.front c.line.new.self = search (rules, line_as) in
+    let refused : Adds (shown_line (bytes "refused=") (Runner.refused_in answers)) c.line.new.self c.line-2.new.self = search (rules, line_as) in
+    let objects : Adds (shown_line (bytes "objects=") (nat (Layout.read cells Layout.objects))) c.line-2.new.self c.line-3.new.self = search (rules, line_as, nat_handed) in
+    let calls : Adds (shown_line (bytes "calls=") (nat (Layout.read cells Layout.calls))) c.line-3.new.self c.line-4.new.self = search (rules, line_as, nat_handed) in
+    let written : Adds (Runner.report answers cells) c.new-front.result c.line-4.new.self =
+    adds_after (adds_after (adds_after (adds_after c.answer_lines.ensures.adds accepted) refused) objects) calls in
+    record { value = search (rules, front_length written); out_after = search (rules, front_is written); upper_bound = omega arith }

@@ -1,0 +1,2 @@
+-- What is proved of the runner beyond its contracts.
+mod Playing
