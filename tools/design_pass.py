@@ -61,12 +61,12 @@ def contracts(path, text):
     crate = path.split('/')[1]
     text = without_comments(text, '//')
     owner = ''
-    for m in re.finditer(r'(?m)^impl[^{]*|^(?: {4})?pub (?:extern "C" )?fn [\s\S]*?\n(?: {4})?\{|^ {4}ghost [\s\S]*?[;,]$|^pub (?:struct|trait|enum) \w+', text):
+    for m in re.finditer(r'(?m)^impl[^{]*|^(?: {4})?pub (?:extern "C" )?fn [\s\S]*?\n(?: {4})?\{|^ {4}ghost [\s\S]*?[;,]$|^(?:pub )?(?:struct|trait|enum) \w+', text):
         s = ' '.join(m[0].split())
         if s.startswith('impl'):
             owner = re.sub(r'impl(<[^>]*>)? ', '', s)
-        elif re.match(r'pub (struct|trait|enum)', s):
-            owner = s.split()[2]
+        elif re.match(r'(pub )?(struct|trait|enum)', s):
+            owner = s.split()[-1]
         elif s.startswith('ghost'):
             if not s.startswith('ghost use'):
                 yield (crate, 'ghost', owner + '.' + s.split()[1].rstrip(':')), s

@@ -19,10 +19,10 @@ use lookup::program::{Program, Table};
 use model::bounds;
 
 // "method 0..7"
-const LAST_METHOD: i32 = 7;
+const LAST_METHOD: i32 = bounds::MOST_METHODS as i32 - 1;
 
 // "args is 0..4"
-const MOST_PARAMS: i32 = 4;
+const MOST_PARAMS: i32 = bounds::MOST_PARAMS as i32;
 
 // "Stage is 1..7, caller 0..objects, callee 1..objects, method 0..7."
 #[tactic(auto, using(whole::proofs::Ranges::handed), unfolding(cells::specs::Configuration::numbers_hold))]
@@ -86,8 +86,8 @@ fn line_holds(cells: &[i32], l: Label, shape: Shape) -> bool
 // "From stage 3 the callee's class has the method, args is its params, line is inside it, v cells from locals on are 0."
 #[tactic(auto, using(crate::proofs::Said::not_standing, crate::proofs::Said::standing, lookup::proofs::Reading::line_stands), unfolding(cells::specs::Configuration::bound_holds, lookup::specs::Vocabulary::Found::StandingSaid))]
 fn bound_holds(program: &Program<'_>, cells: &[i32], l: Label) -> bool
-    requires cells_bound { Stages.objects_in_use cells.now ≤ Layout.object_rows }
-    requires l_value { Whole.between (pos 1) (Layout.read cells.now Layout.objects) (Layout.of_call cells.now l.0 Layout.callee) ≡ true }
+    requires objects_within { Stages.objects_in_use cells.now ≤ Layout.object_rows }
+    requires callee_in_use { Whole.between (pos 1) (Layout.read cells.now Layout.objects) (Layout.of_call cells.now l.0 Layout.callee) ≡ true }
     ensures { result ≡ Configuration.bound_holds (Known.model_of program.now.text) cells.now l.0 }
 {
     let Some(at) = lookup::standing_of(&program.table(), cells, l) else {
@@ -100,7 +100,7 @@ fn bound_holds(program: &Program<'_>, cells: &[i32], l: Label) -> bool
 // "Caller 0 stands only in stages 3, 4 and 7, with method 0 of a class with run 1."
 #[tactic(auto, using(whole::proofs::Ranges::handed, whole::proofs::Tested::nat_of), unfolding(cells::specs::Configuration::callerless_holds))]
 fn callerless_holds(table: &Table<'_>, cells: &[i32], o: ObjectNumber, l: Label) -> bool
-    requires l_value { Layout.of_call cells.now l.0 Layout.callee ≡ pos o.0 }
+    requires callee { Layout.of_call cells.now l.0 Layout.callee ≡ pos o.0 }
     ensures { (s : Text) (m : Model) → Belongs s table.now m → result ≡ Configuration.callerless_holds m cells.now l.0 }
 {
     if !whole::is_number(layout::of_call(cells, l, layout::CALLER), 0) {
@@ -145,8 +145,8 @@ fn marks_hold(cells: &[i32], l: Label) -> bool
 // The two clauses stay clauses: a struct that holds them would be made in `call_holds` and taken apart again in `bound_holds`.
 #[tactic(auto, using(crate::proofs::InTurn::from_bound))]
 fn stage_holds(program: &Program<'_>, cells: &[i32], l: Label) -> bool
-    requires cells_bound { Stages.objects_in_use cells.now ≤ Layout.object_rows }
-    requires l_value { Whole.between (pos 1) (Layout.read cells.now Layout.objects) (Layout.of_call cells.now l.0 Layout.callee) ≡ true }
+    requires objects_within { Stages.objects_in_use cells.now ≤ Layout.object_rows }
+    requires callee_in_use { Whole.between (pos 1) (Layout.read cells.now Layout.objects) (Layout.of_call cells.now l.0 Layout.callee) ≡ true }
     ensures { result ≡ elim (Stages.in_stages cells.now l.0 Stages.bound Stages.taken) [ true ↦ Configuration.bound_holds (Known.model_of program.now.text) cells.now l.0 | false ↦ Configuration.unbound_holds (Known.model_of program.now.text) cells.now l.0 ] }
 {
     if stages::in_stages(cells, l, stages::BOUND, stages::TAKEN) {
@@ -159,7 +159,7 @@ fn stage_holds(program: &Program<'_>, cells: &[i32], l: Label) -> bool
 // All that must hold of a call in use.
 #[tactic(auto, using(crate::proofs::InTurn::callee_found, crate::proofs::InTurn::callee_held, crate::proofs::InTurn::callee_in_use, crate::proofs::InTurn::in_turn, lookup::proofs::Saying::object_missed, whole::proofs::Ranges::handed), unfolding(cells::specs::Configuration::call_holds))]
 pub fn call_holds(program: &Program<'_>, cells: &[i32], l: Label) -> bool
-    requires cells_bound { Stages.objects_in_use cells.now ≤ Layout.object_rows }
+    requires objects_within { Stages.objects_in_use cells.now ≤ Layout.object_rows }
     ensures { result ≡ Configuration.call_holds (Known.model_of program.now.text) cells.now l.0 }
 {
     if !numbers_hold(cells, l) {

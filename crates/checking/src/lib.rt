@@ -41,7 +41,7 @@ fn all_objects(table: &Table<'_>, cells: &[i32], objects: usize) -> bool
 // What holds of each call in use.
 fn all_calls(program: &Program<'_>, cells: &[i32], calls: usize) -> bool
     requires calls_bound { calls ≤ Layout.call_rows }
-    requires cells_bound { Stages.objects_in_use cells.now ≤ Layout.object_rows }
+    requires objects_within { Stages.objects_in_use cells.now ≤ Layout.object_rows }
     ensures { result ≡ all_to calls (Configuration.call_holds (Known.model_of program.now.text) cells.now) }
 {
     all_between(
@@ -63,7 +63,7 @@ fn counts_hold(cells: &[i32]) -> bool
 // Whether cells, as many as a configuration has, are one of the model.
 #[tactic(auto, using(crate::proofs::Whole::counts_right, crate::proofs::Whole::counts_wrong, crate::proofs::Whole::few_calls, crate::proofs::Whole::few_objects), unfolding(cells::specs::Configuration::is_configuration))]
 pub fn is_configuration(program: &Program<'_>, cells: &[i32]) -> bool
-    requires cells_len { length cells.now ≡ Layout.all_cells }
+    requires all_cells { length cells.now ≡ Layout.all_cells }
     ensures { result ≡ Configuration.is_configuration (Known.model_of program.now.text) cells.now }
 {
     if !counts_hold(cells) {

@@ -1,11 +1,13 @@
 // The open blocks of a method as one number: a digit for each block, the innermost lowest, base 4. No digit is 0. A number and no list: the engine
-// allocates nothing, and `through` is public over every number.
+// allocates nothing, and `through` is public over numbers below 65,536.
 ghost use Rattle.std.specs.Prelude.{List, ◌∷◌, ◌≡◌, ◌<◌, ◌≤◌, Some, IfSome};
 ghost use Rattle.code.specs.Blocks as Blocks;
 ghost use Rattle.code.specs.Vocabulary.OpenBlocks as OpenBlocks;
 
 use crate::{Shape, Statement};
 
+// Digits and no enum: what is kept of the open blocks is one number, made of them and taken apart by `%`.
+//
 // The digit of an `if` that waits for its `else`.
 const UNTIL_ELSE: u32 = 1;
 

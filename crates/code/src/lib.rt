@@ -28,7 +28,7 @@ pub enum Form {
     Return,
 }
 
-// The forms that are a word and an expression.
+// The forms that are a word and an expression, as the definition `valued` takes them. No part of `Form`: of another form it says nothing.
 #[derive(Clone, Copy, Debug, PartialEq, Eq)]
 pub enum Valued {
     If,
@@ -36,7 +36,8 @@ pub enum Valued {
     Return,
 }
 
-// A statement with its expressions and its guard worked out. The arguments of a `new` and of a `call` stand beside it.
+// A statement with its expressions and its guard worked out. The arguments of a `new` and of a `call` stand beside it: inside they would make each
+// statement as wide as eight values.
 #[derive(Clone, Copy)]
 pub enum Statement {
     Skip,

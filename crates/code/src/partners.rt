@@ -33,12 +33,12 @@ fn counted(leaves: bool, enters: bool, count: usize) -> Option<usize>
     Some(outer + usize::from(enters))
 }
 
-// The line after the partner of a line that opens a block.
+// The line after the partner of a line that opens a block. That the line is there stays a clause of the three functions here, as of any index.
 #[tactic(auto, using(crate::proofs::Going::begins_onward))]
 fn past_partner(lines: &[u8], i: usize) -> usize
     requires i_in_bounds { i < length lines.now }
-    requires lines_value { Blocks.through_all (Shapes.shapes_in lines.now) [] ≡ Some [] }
-    requires i_value { Counting.present (Blocks.opening (Shapes.shape_at (get_or lines.now i 0))) ≡ true }
+    requires blocks_close { Blocks.through_all (Shapes.shapes_in lines.now) [] ≡ Some [] }
+    requires opens { Counting.present (Blocks.opening (Shapes.shape_at (get_or lines.now i 0))) ≡ true }
     ensures { result ≡ Partners.ahead (Shapes.shapes_in lines.now) i + 1 }
 {
     let mut opened = 0;
@@ -57,8 +57,8 @@ fn past_partner(lines: &[u8], i: usize) -> usize
 #[tactic(auto, using(crate::proofs::Going::begins_backward))]
 fn partner_before(lines: &[u8], i: usize) -> usize
     requires i_in_bounds { i < length lines.now }
-    requires lines_value { Blocks.through_all (Shapes.shapes_in lines.now) [] ≡ Some [] }
-    requires i_value { Counting.present (Blocks.closing (Shapes.shape_at (get_or lines.now i 0))) ≡ true }
+    requires blocks_close { Blocks.through_all (Shapes.shapes_in lines.now) [] ≡ Some [] }
+    requires closes { Counting.present (Blocks.closing (Shapes.shape_at (get_or lines.now i 0))) ≡ true }
     ensures { result ≡ Partners.behind (Shapes.shapes_in lines.now) i }
 {
     let mut closed = 0;
@@ -77,7 +77,7 @@ fn partner_before(lines: &[u8], i: usize) -> usize
 #[tactic(auto, using(crate::proofs::Going::goes_by), unfolding(crate::specs::Blocks::closing, crate::specs::Blocks::opening, crate::specs::Partners::goes_from, crate::specs::Partners::goes_to, crate::specs::Vocabulary::Counting::present, crate::specs::Vocabulary::Shapes::shape_at, crate::specs::Vocabulary::Shapes::shapes_in))]
 pub fn goes_to(lines: &[u8], i: usize) -> usize
     requires i_in_bounds { i < length lines.now }
-    requires lines_value { Blocks.through_all (Shapes.shapes_in lines.now) [] ≡ Some [] }
+    requires blocks_close { Blocks.through_all (Shapes.shapes_in lines.now) [] ≡ Some [] }
     ensures { result ≡ Partners.goes_to (Shapes.shapes_in lines.now) i }
 {
     match Shape::from(lines[i]) {

@@ -1,4 +1,4 @@
-// The shapes of lines as numbers, by which a method's lines are handed over.
+// The shapes of lines as numbers, by which a method's lines are handed over: `goes_to` is public over any bytes, and a table keeps one for each line.
 ghost use Rattle.std.specs.Prelude.{◌≡◌};
 ghost use Rattle.code.specs.Blocks as Blocks;
 ghost use Rattle.code.specs.Vocabulary.Shapes as Shapes;

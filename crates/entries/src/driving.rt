@@ -9,24 +9,14 @@ ghost use Rattle.engine.specs.Entries as Entries;
 ghost use Rattle.engine.specs.Drive as Drive;
 ghost use Rattle.entries.specs.Vocabulary.Searched as Searched;
 
-use crate::{ACCEPTED, ALL_CELLS};
 use lookup::program::Program;
 use model::Rows;
-use rules::{Choice, Kind};
+use rules::{Choice, KINDS, Kind};
 use text::Verdict;
 use whole::refusals::Refusal;
 
 // "With a budget 0..10,000"
 const MOST_STEPS: u32 = 10000;
-
-// "exec 1.., arrive 1.., bind 1.., start 1.., deliver 1..."
-const EXEC_FIRST: [Kind; 5] = [
-    Kind::Exec,
-    Kind::Arrive,
-    Kind::Bind,
-    Kind::Start,
-    Kind::Deliver,
-];
 
 // What a drive gives.
 #[derive(Clone, Copy)]
@@ -53,7 +43,7 @@ fn in_use(cells: &[i32], kind: Kind) -> usize
 // The first accepted choice of a kind, from 1 to a number, is performed; none, and nothing is written.
 #[tactic(auto, using(crate::proofs::Searching::of_none))]
 fn first_of(program: &Program<'_>, cells: &mut [i32], kind: Kind, count: usize) -> bool
-    requires cells_value { is_configuration (Known.model_of program.now.text) cells.old ≡ true }
+    requires configuration { is_configuration (Known.model_of program.now.text) cells.old ≡ true }
     requires count_bound { count ≤ Layout.call_rows }
     ensures first { Searched.First (Known.model_of program.now.text) cells.old (Drive.choices_of kind count 1) result cells.new }
     ensures configuration { is_configuration (Known.model_of program.now.text) cells.new ≡ true }
@@ -73,7 +63,7 @@ fn first_of(program: &Program<'_>, cells: &mut [i32], kind: Kind, count: usize) 
 // The first accepted choice in an order of the kinds is performed.
 #[tactic(auto, using(crate::proofs::Searching::few_calls, crate::proofs::Searching::few_objects, crate::proofs::Searching::in_found, crate::proofs::Searching::in_none))]
 fn first_in(program: &Program<'_>, cells: &mut [i32], order: &[Kind]) -> bool
-    requires cells_value { is_configuration (Known.model_of program.now.text) cells.old ≡ true }
+    requires configuration { is_configuration (Known.model_of program.now.text) cells.old ≡ true }
     ensures first { Searched.First (Known.model_of program.now.text) cells.old (Drive.choices_in order.now cells.old) result cells.new }
     ensures configuration { is_configuration (Known.model_of program.now.text) cells.new ≡ true }
 {
@@ -89,7 +79,7 @@ fn first_in(program: &Program<'_>, cells: &mut [i32], order: &[Kind]) -> bool
 // Accepted steps up to a budget: how many were taken. "It ends at the budget or when none is accepted."
 #[tactic(auto, using(crate::proofs::Searching::steps_done, crate::proofs::Searching::steps_end, crate::proofs::Searching::steps_onward))]
 fn steps(program: &Program<'_>, cells: &mut [i32], order: &[Kind], budget: u32) -> u32
-    requires cells_value { is_configuration (Known.model_of program.now.text) cells.old ≡ true }
+    requires configuration { is_configuration (Known.model_of program.now.text) cells.old ≡ true }
     ensures value { result ≡ (Drive.driven (Known.model_of program.now.text) order.now budget 0 cells.old).steps }
     ensures cells_after { cells.new ≡ (Drive.driven (Known.model_of program.now.text) order.now budget 0 cells.old).cells }
     ensures configuration { is_configuration (Known.model_of program.now.text) cells.new ≡ true }
@@ -105,15 +95,16 @@ fn steps(program: &Program<'_>, cells: &mut [i32], order: &[Kind], budget: u32) 
 // "quiet: yes exactly when no choice is accepted": asked of a copy of the cells.
 #[tactic(auto, using(crate::proofs::Searching::all_there, crate::proofs::Searching::quiet_led))]
 fn is_quiet(program: &Program<'_>, cells: &[i32]) -> bool
-    requires cells_value { is_configuration (Known.model_of program.now.text) cells.now ≡ true }
+    requires configuration { is_configuration (Known.model_of program.now.text) cells.now ≡ true }
     ensures { result ≡ Drive.is_quiet (Known.model_of program.now.text) cells.now }
 {
-    let mut copy = [0; ALL_CELLS];
+    let mut copy = [0; layout::ALL_CELLS];
     copy.copy_from_slice(cells);
-    !first_in(program, &mut copy, &EXEC_FIRST)
+    !first_in(program, &mut copy, &KINDS)
 }
 
-// A drive that is not refused: 14 before anything is written, and quiet told of the cells at the end.
+// A drive, or the verdict that refuses it: 14 before anything is written, and quiet told of the cells at the end. Any order of the kinds, as the
+// definition takes one.
 #[tactic(auto, using(crate::proofs::Drives::drive_done, crate::proofs::Drives::drive_over), unfolding(engine::specs::Entries::at_no_line, whole::specs::Vocabulary::Refusing::number_of))]
 fn drive_in(text: &[u8], cells: &mut [i32], order: &[Kind], budget: u32) -> Result<Drove, Verdict>
     ensures verdict_value { (Searched.drove_of result).verdict ≡ (Entries.drive_in order.now text.now cells.old budget).verdict }
@@ -128,7 +119,7 @@ fn drive_in(text: &[u8], cells: &mut [i32], order: &[Kind], budget: u32) -> Resu
     }
     let steps = steps(&program, cells, order, budget);
     Ok(Drove {
-        verdict: ACCEPTED,
+        verdict: text::ACCEPTED,
         steps,
         quiet: is_quiet(&program, cells),
     })
@@ -142,7 +133,7 @@ pub fn drive(text: &[u8], cells: &mut [i32], budget: u32) -> Drove
     ensures quiet_value { result.quiet ≡ (Entries.drive text.now cells.old budget).quiet }
     ensures cells_after { cells.new ≡ (Entries.drive text.now cells.old budget).cells }
 {
-    drive_in(text, cells, &EXEC_FIRST, budget).unwrap_or_else(|verdict| Drove {
+    drive_in(text, cells, &KINDS, budget).unwrap_or_else(|verdict| Drove {
         verdict,
         steps: 0,
         quiet: false,

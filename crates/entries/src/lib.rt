@@ -19,27 +19,17 @@ use lookup::program::Program;
 use model::{Rows, judging};
 use rules::Choice;
 use text::Verdict;
-use whole::refusals;
 use whole::refusals::Refusal;
 
 pub mod driving;
 pub mod running;
-
-// "2,370 cells"
-const ALL_CELLS: usize = 2370;
-
-// "0 is acceptance", and it names no line.
-const ACCEPTED: Verdict = Verdict {
-    number: refusals::ACCEPTED,
-    line: 0,
-};
 
 // The verdict of an entry that was refused, or was not.
 #[tactic(auto, unfolding(engine::specs::Entries::at_no_line))]
 fn verdict_of<T: Drop>(outcome: Result<T, Verdict>) -> Verdict
     ensures { result ≡ Checked.verdict_of outcome }
 {
-    outcome.err().unwrap_or(ACCEPTED)
+    outcome.err().unwrap_or(text::ACCEPTED)
 }
 
 // "Start writes: one object of class 0, attributes 0, running label 1; call 1 with caller 0, callee 1, method 0, stage 4, the rest 0."
@@ -64,7 +54,7 @@ fn write_fresh(cells: &mut [i32])
 
 // One choice of a configuration, which stays one.
 fn next(program: &Program<'_>, cells: &mut [i32], choice: Choice) -> Result<(), Refusal>
-    requires cells_value { is_configuration (Known.model_of program.now.text) cells.old ≡ true }
+    requires configuration { is_configuration (Known.model_of program.now.text) cells.old ≡ true }
     ensures done { Done cells.old (Step.next (Known.model_of program.now.text) cells.old choice) result cells.new }
     ensures configuration { is_configuration (Known.model_of program.now.text) cells.new ≡ true }
 {
@@ -83,7 +73,7 @@ fn on_model<'t>(text: &'t [u8], rows: &'t mut Rows, cells: &[i32]) -> Result<Pro
     ensures of_text { IfOk result (λ program. program.text ≡ text.now) }
 {
     judging::read(text, rows)?;
-    if cells.len() != ALL_CELLS {
+    if cells.len() != layout::ALL_CELLS {
         return Err(Verdict::from(Refusal::CellsNotAll));
     }
     Ok(Program { text, rows })
@@ -134,7 +124,7 @@ pub fn start(text: &[u8], cells: &mut [i32]) -> Verdict
     verdict_of(start_in(text, &mut rows, cells))
 }
 
-// One choice of a text's own cells.
+// A step that is refused, or is taken.
 fn stepped(text: &[u8], cells: &mut [i32], choice: Choice) -> Result<(), Verdict>
     ensures value { Checked.verdict_of result ≡ (Entries.step text.now cells.old choice).verdict }
     ensures cells_after { cells.new ≡ (Entries.step text.now cells.old choice).cells }

@@ -15,7 +15,7 @@ use rules::Choice;
 use text::Verdict;
 use whole::refusals::{Refusal, number_given};
 
-// One choice of a run: one step, with its answer in its own place.
+// One choice of a run: one step, with its answer in its own place among those that are lent.
 #[tactic(auto, using(crate::proofs::Refusing::answer_small))]
 pub fn perform(
     program: &Program<'_>,
@@ -24,7 +24,7 @@ pub fn perform(
     i: usize,
     choice: Choice,
 )
-    requires cells_value { is_configuration (Known.model_of program.now.text) cells.old ≡ true }
+    requires configuration { is_configuration (Known.model_of program.now.text) cells.old ≡ true }
     requires i_in_bounds { i < length answers.old }
     ensures cells_after { cells.new ≡ Next.cells_after cells.old (Step.next (Known.model_of program.now.text) cells.old choice) }
     ensures answers_after { answers.new ≡ set answers.old i (pos (Next.answer_of (Step.next (Known.model_of program.now.text) cells.old choice))) }
@@ -36,7 +36,7 @@ pub fn perform(
 // Each choice is one step.
 #[tactic(auto, using(crate::proofs::Turns::at_first, crate::proofs::Turns::finished))]
 fn run_choices(program: &Program<'_>, cells: &mut [i32], choices: &[Choice], answers: &mut [i32])
-    requires cells_value { is_configuration (Known.model_of program.now.text) cells.old ≡ true }
+    requires configuration { is_configuration (Known.model_of program.now.text) cells.old ≡ true }
     requires answers_len { length answers.old ≡ length choices.now }
     ensures cells_after { cells.new ≡ Run.run_cells (Known.model_of program.now.text) cells.old choices.now }
     ensures answers_after { answers.new ≡ Run.run_answers (Known.model_of program.now.text) cells.old choices.now }

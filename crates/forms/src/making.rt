@@ -37,14 +37,14 @@ fn with_call(cells: &mut [i32], call: NewCall, locals: &[i32; 8])
 {
     let next = layout::rows_in_use(cells) as u8 + 1;
     writers::to_calls(cells, next);
-    writers::new_call(cells, next as u32, call, locals)
+    writers::new_call(cells, u32::from(next), call, locals)
 }
 
 // "Where the class has run 1 it also issues the next label: caller 0, method 0, stage 4, running there."
 fn with_running(cells: &mut [i32], class: u8, attributes: &[i32; 8])
-    requires cells_bound { Stages.objects_in_use cells.old < Layout.object_rows }
-    requires cells_bound_2 { Stages.rows_in_use cells.old < Layout.call_rows }
-    requires cells_len { length cells.old ≡ Layout.all_cells }
+    requires objects_within { Stages.objects_in_use cells.old < Layout.object_rows }
+    requires calls_within { Stages.rows_in_use cells.old < Layout.call_rows }
+    requires all_cells { length cells.old ≡ Layout.all_cells }
     ensures { (m : Model) (o l : ℕ) (st : Standing) (zs : List ℤ) → Exec.class_runs m class ≡ true → attributes.now ≡ Layout.padded Layout.most_attributes zs → cells.new ≡ Layout.written cells.old (Exec.made m cells.old o l st class zs) }
 {
     let object = layout::objects_in_use(cells) as u8 + 1;
@@ -70,7 +70,7 @@ fn created(
     runs: bool,
     attributes: [i32; 8],
 ) -> Result<(), Refusal>
-    requires cells_len { length cells.old ≡ Layout.all_cells }
+    requires all_cells { length cells.old ≡ Layout.all_cells }
     ensures { (m : Model) (st : Standing) (zs : List ℤ) → st.at ≡ running.line → Exec.class_runs m class ≡ runs → attributes ≡ Layout.padded Layout.most_attributes zs → Done cells.old (Exec.created m cells.old running.here.object.0 running.here.label.0 st x class zs) result cells.new }
 {
     let objects = layout::objects_in_use(cells);
@@ -99,7 +99,7 @@ fn issued(
     args: u8,
     locals: [i32; 8],
 ) -> Result<(), Refusal>
-    requires cells_bound { Stages.objects_in_use cells.old ≤ Layout.object_rows }
+    requires objects_within { Stages.objects_in_use cells.old ≤ Layout.object_rows }
     ensures { (m : Model) (st : Standing) (zs : List ℤ) → st.at ≡ running.line → locals ≡ Layout.padded Layout.most_locals zs → args ≡ length zs → Done cells.old (Exec.issued m cells.old running.here.object.0 running.here.label.0 st x z method zs) result cells.new }
 {
     let to = layout::object_of(cells, z).ok_or(Refusal::CalleeNoObject)?;
@@ -127,7 +127,7 @@ pub fn creating(
     runs: bool,
     arguments: Arguments,
 ) -> Result<(), Refusal>
-    requires cells_len { length cells.old ≡ Layout.all_cells }
+    requires all_cells { length cells.old ≡ Layout.all_cells }
     ensures { (m : Model) (st : Standing) (ws : List Worked) → st.at ≡ running.line → Exec.class_runs m class ≡ runs → arguments ≡ Answers.gathered Answers.no_arguments ws → Done cells.old (Next.working_all ws (Exec.created m cells.old running.here.object.0 running.here.label.0 st x class)) result cells.new }
 {
     let attributes = arguments.values.ok_or(Refusal::OutOfRange)?;
@@ -144,7 +144,7 @@ pub fn calling(
     arguments: Arguments,
 ) -> Result<(), Refusal>
     requires count_bound { arguments.count < 5 }
-    requires cells_bound { Stages.objects_in_use cells.old ≤ Layout.object_rows }
+    requires objects_within { Stages.objects_in_use cells.old ≤ Layout.object_rows }
     ensures { (m : Model) (st : Standing) (ws : List Worked) → st.at ≡ running.line → arguments ≡ Answers.gathered Answers.no_arguments ws → Done cells.old (Next.working callee (λ z. Next.working_all ws (Exec.issued m cells.old running.here.object.0 running.here.label.0 st x z method))) result cells.new }
 {
     let z = callee.ok_or(Refusal::OutOfRange)?;

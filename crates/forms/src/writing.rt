@@ -15,10 +15,10 @@ pub fn stored(cells: &mut [i32], here: Here, x: Variable, z: i32)
         Variable::Attribute(i) => writers::to_object(
             cells,
             here.object,
-            layout::ATTRIBUTE + i as u16,
+            layout::ATTRIBUTE + u16::from(i),
             z,
         ),
-        Variable::Local(i) => writers::to_call(cells, here.label, layout::LOCAL + i as u16, z),
+        Variable::Local(i) => writers::to_call(cells, here.label, layout::LOCAL + u16::from(i), z),
     }
 }
 

@@ -18,6 +18,9 @@ pub struct ObjectNumber(pub u8);
 #[derive(Clone, Copy, Debug, PartialEq, Eq)]
 pub struct Label(pub u32);
 
+/// "2,370 cells"
+pub const ALL_CELLS: usize = 2370;
+
 // "Cell 0: objects; cell 1: calls issued."
 const OBJECTS: usize = 0;
 
@@ -64,7 +67,7 @@ impl Block {
         ensures { result ≡ Found.field_cell self.first self.rows self.width row field }
     {
         if self.has_row(row) && field < self.width {
-            Some(self.first + (row - 1) as usize * self.width as usize + field as usize)
+            Some(self.first + (row - 1) as usize * usize::from(self.width) + usize::from(field))
         } else {
             None
         }
@@ -122,7 +125,7 @@ pub fn of_object(cells: &[i32], o: ObjectNumber, field: u16) -> i32
     cell(cells, object_cell(o, field))
 }
 
-// The row of a label.
+// The row of a label. The cells say nothing of it; the definition takes them, as rows may be used again one day.
 #[tactic(auto, unfolding(crate::specs::Layout::row_of, whole::specs::Plain::only_if))]
 fn row_of(cells: &[i32], l: Label) -> Option<u32>
     ensures { result ≡ Layout.row_of cells.now l.0 }
@@ -146,7 +149,7 @@ pub fn of_call(cells: &[i32], l: Label, field: u16) -> i32
     cell(cells, call_cell(cells, l, field))
 }
 
-// "Cell 0: objects; cell 1: calls issued."
+// "Cell 0: objects; cell 1: calls issued." Each count, field and writer has a public function of its own name, one line over what they share.
 #[tactic(auto, using(whole::proofs::Ranges::handed), unfolding(crate::specs::Layout::cell_of, crate::specs::Layout::read, crate::specs::Layout::stands, crate::specs::Vocabulary::Found::held_at))]
 pub fn objects(cells: &[i32]) -> i32
     ensures { result ≡ Layout.read cells.now Layout.objects }
@@ -192,12 +195,13 @@ fn is_counted(cells: &[i32], at: usize, z: i32) -> bool
     whole::between(1, cell(cells, Some(at)), z)
 }
 
-// A number as an object's in use, among so few that a byte holds them. Not `then_some`, no plainer: the cast asks for the test before it.
+// A number as an object's in use, among so few that a byte holds them.
 #[tactic(auto, using(crate::proofs::Numbers::counted_within, crate::proofs::Numbers::object_in_use, crate::proofs::Numbers::object_not_in_use), unfolding(crate::specs::Layout::cell_of, crate::specs::Layout::read, crate::specs::Layout::stands, crate::specs::Stages::object_of, crate::specs::Stages::objects_in_use, crate::specs::Vocabulary::Found::as_object))]
 pub fn object_of(cells: &[i32], z: i32) -> Option<ObjectNumber>
     requires { Stages.objects_in_use cells.now ≤ 255 }
     ensures { result ≡ Found.as_object (Stages.object_of cells.now z) }
 {
+    // An `if`: with `then(|| ..)` the proof that the number fits a byte did not close.
     if is_counted(cells, OBJECTS, z) {
         Some(ObjectNumber(z as u8))
     } else {
@@ -205,16 +209,12 @@ pub fn object_of(cells: &[i32], z: i32) -> Option<ObjectNumber>
     }
 }
 
-// A number as a label in use. Not `then_some`, no plainer: the cast asks for the test before it.
+// A number as a label in use.
 #[tactic(auto, using(crate::proofs::Numbers::counted, crate::proofs::Numbers::label_in_use, crate::proofs::Numbers::label_not_in_use), unfolding(crate::specs::Layout::cell_of, crate::specs::Layout::read, crate::specs::Layout::stands, crate::specs::Stages::label_of, crate::specs::Vocabulary::Found::as_label))]
 pub fn label_of(cells: &[i32], z: i32) -> Option<Label>
     ensures { result ≡ Found.as_label (Stages.label_of cells.now z) }
 {
-    if is_counted(cells, CALLS, z) {
-        Some(Label(z as u32))
-    } else {
-        None
-    }
+    is_counted(cells, CALLS, z).then(|| Label(z as u32))
 }
 
 // "of stage 6 whose caller is this object"

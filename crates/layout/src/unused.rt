@@ -22,13 +22,13 @@ fn zeros(cells: &[i32]) -> bool
 // Every cell of the object rows and of the call rows that are not in use is 0.
 #[tactic(auto, unfolding(crate::specs::Stages::objects_in_use, crate::specs::Stages::rows_in_use, crate::specs::Vocabulary::Found::zeros_in))]
 pub fn unused_zero(cells: &[i32]) -> bool
-    requires cells_len { length cells.now ≡ Layout.all_cells }
-    requires cells_bound { Stages.objects_in_use cells.now ≤ Layout.object_rows }
-    requires cells_bound_2 { Stages.rows_in_use cells.now ≤ Layout.call_rows }
+    requires all_cells { length cells.now ≡ Layout.all_cells }
+    requires objects_within { Stages.objects_in_use cells.now ≤ Layout.object_rows }
+    requires calls_within { Stages.rows_in_use cells.now ≤ Layout.call_rows }
     ensures { result ≡ (Found.zeros_in cells.now (Layout.first_object + Stages.objects_in_use cells.now * Layout.object_cells) Layout.first_call && Found.zeros_in cells.now (Layout.first_call + Stages.rows_in_use cells.now * Layout.call_cells) Layout.all_cells) }
 {
     let objects_end = OBJECT_BLOCK.first
-        + crate::objects_in_use(cells) * OBJECT_BLOCK.width as usize;
-    let calls_end = CALL_BLOCK.first + crate::rows_in_use(cells) * CALL_BLOCK.width as usize;
+        + crate::objects_in_use(cells) * usize::from(OBJECT_BLOCK.width);
+    let calls_end = CALL_BLOCK.first + crate::rows_in_use(cells) * usize::from(CALL_BLOCK.width);
     zeros(&cells[objects_end..CALL_BLOCK.first]) && zeros(&cells[calls_end..])
 }

@@ -6,7 +6,7 @@ ghost use Rattle.layout.specs.Vocabulary.Found as Found;
 
 use crate::{Block, CALL_BLOCK, Label, OBJECT_BLOCK, ObjectNumber};
 
-// What the row of a new call holds beside its locals.
+// What the row of a new call holds beside its locals: the numbers that go to its cells, of any that fit a byte.
 #[derive(Clone, Copy, Debug, PartialEq, Eq)]
 pub struct NewCall {
     pub stage: u8,

@@ -43,6 +43,7 @@ fn index_below(z: i32, count: u32) -> Option<u32>
     ensures { Found.IndexSaid z count result }
 {
     let i = whole::as_natural(z)?;
+    // An `if`: with `then(|| ..)` the proof did not close.
     if i < count as usize {
         Some(i as u32)
     } else {
@@ -95,11 +96,12 @@ fn binds_to(table: &Table<'_>, class: u32, method: i32, args: i32) -> Option<Bod
     takes(table, class, attrs, j, args)
 }
 
-// A call's body: the method that binding finds in its callee's class.
+// A call's body: the method that binding finds in its callee's class. That the callee is in use stays a clause, here and in `standing_of`: a struct
+// for it would be made at each call of the two.
 #[tactic(auto, using(crate::proofs::Saying::body_nowhere, crate::proofs::Saying::object_is, crate::proofs::Saying::object_missed, whole::proofs::Ranges::handed), unfolding(crate::specs::Vocabulary::Found::BodySaid))]
 pub fn body_of(table: &Table<'_>, cells: &[i32], l: Label) -> Option<Body>
-    requires cells_bound { Stages.objects_in_use cells.now ≤ Layout.object_rows }
-    requires l_value { Whole.between (pos 1) (Layout.read cells.now Layout.objects) (Layout.of_call cells.now l.0 Layout.callee) ≡ true }
+    requires objects_within { Stages.objects_in_use cells.now ≤ Layout.object_rows }
+    requires callee_in_use { Whole.between (pos 1) (Layout.read cells.now Layout.objects) (Layout.of_call cells.now l.0 Layout.callee) ≡ true }
     ensures { (s : Text) (m : Model.Model) → Belongs s table.now m → Found.BodySaid table.now m (body_of m cells.now l.0) result }
 {
     let callee = layout::object_of(cells, layout::of_call(cells, l, layout::CALLEE))?;
@@ -115,8 +117,8 @@ pub fn body_of(table: &Table<'_>, cells: &[i32], l: Label) -> Option<Body>
 // Where a call stands: its body, and the line inside it.
 #[tactic(auto, using(crate::proofs::Saying::stands_nowhere, whole::proofs::Ranges::handed), unfolding(crate::specs::Vocabulary::Found::BodySaid, crate::specs::Vocabulary::Found::StandingSaid))]
 pub fn standing_of(table: &Table<'_>, cells: &[i32], l: Label) -> Option<Standing>
-    requires cells_bound { Stages.objects_in_use cells.now ≤ Layout.object_rows }
-    requires l_value { Whole.between (pos 1) (Layout.read cells.now Layout.objects) (Layout.of_call cells.now l.0 Layout.callee) ≡ true }
+    requires objects_within { Stages.objects_in_use cells.now ≤ Layout.object_rows }
+    requires callee_in_use { Whole.between (pos 1) (Layout.read cells.now Layout.objects) (Layout.of_call cells.now l.0 Layout.callee) ≡ true }
     ensures { (s : Text) (m : Model.Model) → Belongs s table.now m → Found.StandingSaid table.now m cells.now l.0 result }
 {
     let body = body_of(table, cells, l)?;

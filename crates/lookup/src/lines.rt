@@ -11,7 +11,7 @@ use code::{ReadCode, partners, statements};
 use model::{Row, table};
 use terms::{Around, Here, Limits};
 
-// The number of its shape.
+// The number of its shape. The shapes, here and below, are a slice with no length beside it.
 pub fn shape(shapes: &[u8], at: Standing) -> u8
     requires { at.body.first + at.line < length shapes.now }
     ensures { result ≡ get_or shapes.now (at.body.first + at.line) 0 }
@@ -31,7 +31,8 @@ pub fn goes_to(shapes: &[u8], at: Standing) -> u32
     partners::goes_to(lines, at.line as usize) as u32
 }
 
-// Its statement: the bytes that its row leads to, read with the values worked out.
+// Its statement: the bytes that its row leads to, read with the values worked out. It asks for the facts that it needs, and for no `Program`: of the
+// text and the table nothing else has to be known.
 #[tactic(auto, unfolding(crate::specs::Vocabulary::Found::around, model::specs::Vocabulary::Belonging::value_in))]
 pub fn statement(
     text: &[u8],

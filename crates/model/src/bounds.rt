@@ -11,7 +11,7 @@ pub const MOST_ATTRIBUTES: u32 = 8;
 
 pub const MOST_METHODS: u32 = 8;
 
-const MOST_PARAMS: u32 = 4;
+pub const MOST_PARAMS: u32 = 4;
 
 pub const MOST_LOCALS: u32 = 8;
 
@@ -47,7 +47,8 @@ pub fn most_params(run: u32, method: u32) -> u32
     }
 }
 
-// The 64, or what is left of the 512 after so many lines.
+// The 64, or what is left of the 512 after so many lines. That these are at most 512 stays a clause, here and where lines are counted: a type for the
+// sum would be made anew at each method.
 pub fn most_lines(total: u32) -> u32
     requires { total ≤ 512 }
     ensures { result ≡ min Bounds.most_lines (Bounds.all_lines - total) }

@@ -41,7 +41,7 @@ pub fn class(
     total: u32,
 ) -> Result<(u32, At), Failed>
     requires placed { Readings.Placed text.now at }
-    requires k_lt_classes { (k < classes) × (classes ≤ 16) × (total ≤ 512) }
+    requires class_bound { (k < classes) × (classes ≤ 16) × (total ≤ 512) }
     ensures { Readings.Tells text.now (Leaving.ClassLeft text.now rows.old.table rows.old.shapes rows.new.table rows.new.shapes classes k total) result (Readings.read_at (ModelText.read_class classes k (Leaving.between rows.old.table total)) text.now at) }
 {
     let (_, at) = key_lines::number_line(text, at, b"class=", k, k)?;

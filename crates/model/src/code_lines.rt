@@ -115,7 +115,7 @@ pub fn code_line(
         place as u32,
         (end - place) as u32,
         at.line,
-        stated.new as u32,
+        u32::from(stated.new),
     );
     table::put(&mut rows.table, table::FIRST_CODE + line, row);
     rows.shapes[line] = stated.shape;

@@ -34,7 +34,8 @@ fn fits(table: &[u16; table::SIZE], classes: u32, new: u32) -> bool
     told / bounds::MOST_CLASSES == given_to(table, classes, told % bounds::MOST_CLASSES)
 }
 
-// Every `new` of a text that passes otherwise, in the order of its lines: the first that does not fit is refused.
+// Every `new` of a text that passes otherwise, in the order of its lines: the first that does not fit is refused. That the classes are few stays a
+// clause of the three functions here: their number comes from the table, whose type says nothing of the numbers in it.
 #[tactic(auto, using(crate::proofs::CountsOfNew::counts_end, crate::proofs::CountsOfNew::counts_here, crate::proofs::CountsOfNew::counts_onward), unfolding(crate::specs::Vocabulary::Judging::accepted_or, whole::specs::Vocabulary::Refusing::number_of))]
 pub fn counts_judged(table: &[u16; table::SIZE], classes: u32, total: u32) -> Result<(), Verdict>
     requires classes_bound { classes ≤ 16 }

@@ -14,7 +14,6 @@ ghost use Rattle.model.specs.Vocabulary.Table as Table;
 
 use crate::{Row, Rows, bounds, classes, creations, table};
 use text::{At, Failed, Verdict, key_lines};
-use whole::refusals;
 use whole::refusals::Refusal;
 
 // "At most 32,768 bytes"
@@ -71,10 +70,7 @@ pub fn judge(text: &[u8]) -> Verdict
 {
     let mut rows = Rows::new();
     match read(text, &mut rows) {
-        Ok(()) => Verdict {
-            number: refusals::ACCEPTED,
-            line: 0,
-        },
+        Ok(()) => text::ACCEPTED,
         Err(verdict) => verdict,
     }
 }

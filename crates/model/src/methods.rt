@@ -35,7 +35,7 @@ pub fn method(
     total: u32,
 ) -> Result<(u32, At), Failed>
     requires placed { Readings.Placed text.now at }
-    requires j_bound { (j < 8) × (total ≤ 512) }
+    requires method_bound { (j < 8) × (total ≤ 512) }
     ensures { Readings.Tells text.now (Leaving.MethodLeft text.now rows.old.table rows.old.shapes rows.new.table rows.new.shapes class j total) result (Readings.read_at (ModelText.read_method class.classes class.attrs class.run j (Leaving.between rows.old.table total)) text.now at) }
 {
     let (_, at) = key_lines::number_line(text, at, b"method=", j, j)?;

@@ -1,7 +1,7 @@
 // The table of a text: rows of four numbers, by which later parts find its lines; and the shape of each code line. Every number of a text fits
 // in 16 bits, and a table of such numbers is cleared in half the time.
-// Flat, and no array of rows: every law of `lookup` and `checking` speaks of the places of its numbers (`row_at`), and rows of `u16` would be no
-// plainer, since `Row` gives `u32`.
+// Flat, and no arrays of named rows: `row`, `put` and the others are public over a table of numbers and rows of any four, and the laws of `lookup`
+// and `checking` speak of places in it (`row_at`).
 ghost use Rattle.std.specs.Prelude.{◌≡◌, ◌<◌};
 ghost use Rattle.model.specs.Vocabulary.Table as Table;
 
@@ -26,15 +26,15 @@ pub const MODEL: usize = FIRST_CODE + LINES;
 // The four numbers of a row.
 #[tactic(auto, unfolding(crate::specs::Vocabulary::Table::row_at))]
 pub fn row(table: &[u16; SIZE], r: usize) -> Row
-    requires r_bound { r < Table.rows }
+    requires row_bound { r < Table.rows }
     ensures { result ≡ Table.row_at table.now r }
 {
     let at = r * 4;
     Row(
-        table[at] as u32,
-        table[at + 1] as u32,
-        table[at + 2] as u32,
-        table[at + 3] as u32,
+        u32::from(table[at]),
+        u32::from(table[at + 1]),
+        u32::from(table[at + 2]),
+        u32::from(table[at + 3]),
     )
 }
 
@@ -49,7 +49,7 @@ pub fn classes(table: &[u16; SIZE]) -> u32
 // Four numbers in the place of a row's.
 #[tactic(auto, unfolding(crate::specs::Vocabulary::Table::put))]
 pub fn put(table: &mut [u16; SIZE], r: usize, row: Row)
-    requires r_bound { r < Table.rows }
+    requires row_bound { r < Table.rows }
     requires small { Table.Small row }
     ensures { table.new ≡ Table.put table.old r row }
 {

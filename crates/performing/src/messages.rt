@@ -20,7 +20,8 @@ use lookup::program::{Program, Table};
 use terms::Here;
 use whole::refusals::Refusal;
 
-// A call that goes from one stage to another, or the number that refuses it where it is not in the first.
+// A call that goes from one stage to another, or the refusal of one that is not in the first. `arrive` and `deliver` are one line each
+// over it: they keep the names of their rules.
 fn moved_on(cells: &mut [i32], l: Label, from: u8, to: u8, refusal: Refusal) -> Result<(), Refusal>
     ensures { Done cells.old (Next.must (Stages.in_stage cells.old l.0 from) (number_of refusal) (Next.moved (Stages.staged cells.old l.0 to))) result cells.new }
 {
@@ -48,8 +49,8 @@ pub fn arrive(cells: &mut [i32], l: Label) -> Result<(), Refusal>
 // "bind L (3): 2 to 3, if the callee's class has the method with as many params as args."
 // What `bind`, `ready` and `start` ask of the cells stays in their clauses: a struct that lent the cells would owe it anew after each write.
 pub fn bind(table: &Table<'_>, cells: &mut [i32], l: Label) -> Result<(), Refusal>
-    requires cells_bound { Stages.objects_in_use cells.old ≤ Layout.object_rows }
-    requires l_value { Whole.between (pos 1) (Layout.read cells.old Layout.objects) (Layout.of_call cells.old l.0 Layout.callee) ≡ true }
+    requires objects_within { Stages.objects_in_use cells.old ≤ Layout.object_rows }
+    requires callee_in_use { Whole.between (pos 1) (Layout.read cells.old Layout.objects) (Layout.of_call cells.old l.0 Layout.callee) ≡ true }
     ensures { (s : Text) (m : Model) → Belongs s table.now m → Done cells.old (Messages.bind m cells.old l.0) result cells.new }
 {
     if !stages::in_stage(cells, l, stages::QUEUED) {
@@ -60,7 +61,8 @@ pub fn bind(table: &Table<'_>, cells: &mut [i32], l: Label) -> Result<(), Refusa
     Ok(())
 }
 
-// Whether a call is ready at its statement: 1 where it is, 0 where it is not, or out of range.
+// Whether a call is ready at its statement: 1 where it is, 0 where it is not, or out of range. A value and no truth, as the definition has it: what
+// is tested is the guard's.
 #[tactic(auto, unfolding(crate::specs::Vocabulary::Parts::ready_said))]
 fn ready_at(statement: Statement) -> Option<i32>
     ensures { result ≡ Parts.ready_said statement }
@@ -74,8 +76,8 @@ fn ready_at(statement: Statement) -> Option<i32>
 // "A call is ready unless its line is an `await` whose guard is not enabled."
 #[tactic(auto, using(crate::proofs::Choosing::ready_nowhere, lookup::proofs::Reading::line_below, lookup::proofs::Reading::line_inside, lookup::proofs::Reading::some_classes, lookup::proofs::Reading::told), unfolding(lookup::specs::Vocabulary::Found::StandingSaid))]
 fn ready(program: &Program<'_>, cells: &[i32], here: Here) -> Option<i32>
-    requires cells_bound { Stages.objects_in_use cells.now ≤ Layout.object_rows }
-    requires label_value { Whole.between (pos 1) (Layout.read cells.now Layout.objects) (Layout.of_call cells.now here.label.0 Layout.callee) ≡ true }
+    requires objects_within { Stages.objects_in_use cells.now ≤ Layout.object_rows }
+    requires callee_in_use { Whole.between (pos 1) (Layout.read cells.now Layout.objects) (Layout.of_call cells.now here.label.0 Layout.callee) ≡ true }
     ensures { result ≡ Messages.ready (Known.model_of program.now.text) cells.now here.object.0 here.label.0 }
 {
     let Some(at) = lookup::standing_of(&program.table(), cells, here.label) else {
@@ -105,9 +107,9 @@ fn started(cells: &mut [i32], here: Here) -> Result<(), Refusal>
 // "start L (4): 3 to 4 in an idle callee."; "start tests 29 before 25".
 #[tactic(auto, using(lookup::proofs::Saying::object_missed, whole::proofs::Ranges::handed))]
 pub fn start(program: &Program<'_>, cells: &mut [i32], l: Label) -> Result<(), Refusal>
-    requires cells_bound { Stages.objects_in_use cells.old ≤ Layout.object_rows }
-    requires l_value { Whole.between (pos 1) (Layout.read cells.old Layout.objects) (Layout.of_call cells.old l.0 Layout.callee) ≡ true }
-    requires l_bound { l.0 < 2 ^ 31 }
+    requires objects_within { Stages.objects_in_use cells.old ≤ Layout.object_rows }
+    requires callee_in_use { Whole.between (pos 1) (Layout.read cells.old Layout.objects) (Layout.of_call cells.old l.0 Layout.callee) ≡ true }
+    requires label_bound { l.0 < 2 ^ 31 }
     ensures { Done cells.old (Messages.start (Known.model_of program.now.text) cells.old l.0) result cells.new }
 {
     if !stages::in_stage(cells, l, stages::BOUND) {

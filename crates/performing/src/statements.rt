@@ -24,7 +24,7 @@ use lookup::{Standing, lines};
 use terms::Here;
 use whole::refusals::Refusal;
 
-// A line performed, its values worked out.
+// A line performed, its values worked out. The shapes are a slice, and no `Program`: what is asked of them is said of this line alone.
 #[tactic(auto, using(lookup::proofs::Reading::goes_few), unfolding(crate::specs::Vocabulary::Parts::Small))]
 fn performed(
     table: &Table<'_>,
@@ -37,8 +37,8 @@ fn performed(
 ) -> Result<(), Refusal>
     requires lined { Found.Lined shapes.now at }
     requires small { Parts.Small statement arguments }
-    requires cells_len { length cells.old ≡ Layout.all_cells }
-    requires cells_bound { Stages.objects_in_use cells.old ≤ Layout.object_rows }
+    requires all_cells { length cells.old ≡ Layout.all_cells }
+    requires objects_within { Stages.objects_in_use cells.old ≤ Layout.object_rows }
     ensures { (s : Text) (m : Model) (st : Stands.Standing) (w : Statements.Statement Worked Worked) → Belongs s table.now m → Parts.SameLine shapes.now at st → statement ≡ Answers.as_statement w → arguments ≡ Answers.arguments_of w → Done cells.old (Exec.performed m cells.old here.object.0 here.label.0 st w) result cells.new }
 {
     let running = Running {
@@ -76,7 +76,7 @@ fn performed(
 // The statement at the line of the object's running call.
 #[tactic(auto, using(cells::proofs::Configured::configured, crate::proofs::Choosing::callee_in_use, crate::proofs::Choosing::few_objects, crate::proofs::Choosing::label_within, layout::proofs::Numbers::label_some, lookup::proofs::Reading::line_below, lookup::proofs::Reading::line_inside, lookup::proofs::Reading::some_classes, lookup::proofs::Reading::told, whole::proofs::Ranges::handed), unfolding(lookup::specs::Vocabulary::Found::StandingSaid))]
 pub fn exec(program: &Program<'_>, cells: &mut [i32], o: ObjectNumber) -> Result<(), Refusal>
-    requires cells_value { is_configuration (Known.model_of program.now.text) cells.old ≡ true }
+    requires configuration { is_configuration (Known.model_of program.now.text) cells.old ≡ true }
     ensures { Done cells.old (Exec.exec (Known.model_of program.now.text) cells.old o.0) result cells.new }
 {
     let running = layout::of_object(cells, o, layout::RUNNING_LABEL);

@@ -46,8 +46,8 @@ fn around(attrs: u8, locals: u8, object: u8, label: u32) -> Around
 {
     Around {
         limits: Limits {
-            attrs: attrs as usize,
-            locals: locals as usize,
+            attrs: usize::from(attrs),
+            locals: usize::from(locals),
         },
         here: Here {
             object: ObjectNumber(object),
@@ -56,6 +56,7 @@ fn around(attrs: u8, locals: u8, object: u8, label: u32) -> Around
     }
 }
 
+// This and `probe_guard` stay two: each is a function of the C interface.
 #[unsafe(no_mangle)]
 pub extern "C" fn probe_expression(
     s: &[u8],

@@ -26,6 +26,15 @@ pub enum Kind {
     Deliver,
 }
 
+/// The kinds in document 01's order: "exec 1.., arrive 1.., bind 1.., start 1.., deliver 1..."
+pub const KINDS: [Kind; 5] = [
+    Kind::Exec,
+    Kind::Arrive,
+    Kind::Bind,
+    Kind::Start,
+    Kind::Deliver,
+];
+
 // A kind by its number; what is no kind's is refused with 12.
 impl TryFrom<i32> for Kind {
     type Error = Refusal;

@@ -21,19 +21,17 @@ use transcript::{choices, reports};
 // "At most 32,768 bytes", and one more: a model that is longer is refused with 1, and has to be seen to be longer.
 const TEXT_ROOM: usize = 32769;
 
-// "2,370 cells"
-const ALL_CELLS: usize = 2370;
-
 // "Input past 4,096 bytes is not read."
 const INPUT_ROOM: usize = 4096;
 
 // An input of 4,096 bytes has no more choices.
 const MOST_CHOICES: usize = 4096;
 
-// The choices of an input, each played as its line is read: the answers at the front of the memory lent, and how many they are.
+// The choices of an input, each played as its line is read: the answers at the front of the memory lent, and how many they are. Memory of
+// the caller's and a count: nothing is allocated.
 #[tactic(auto, using(crate::proofs::Playing::ends_within))]
 fn play(program: &Program<'_>, cells: &mut [i32], input: &[u8], answers: &mut [i32]) -> usize
-    requires cells_value { is_configuration (Known.model_of program.now.text) cells.old ≡ true }
+    requires configuration { is_configuration (Known.model_of program.now.text) cells.old ≡ true }
     requires in_bounds { Choices.longest_input ≤ length answers.old }
     ensures value { result ≡ length (Run.run_answers (Known.model_of program.now.text) cells.old (Choices.choices_from input.now)) }
     ensures cells_after { cells.new ≡ Run.run_cells (Known.model_of program.now.text) cells.old (Choices.choices_from input.now) }
@@ -63,7 +61,7 @@ fn session(text: &[u8], input: &[u8], out: &mut [u8]) -> usize
     ensures prefix { result ≡ length (take result out.new) }
 {
     let mut rows = Rows::new();
-    let mut cells = [0; ALL_CELLS];
+    let mut cells = [0; layout::ALL_CELLS];
     match entries::start_in(text, &mut rows, &mut cells) {
         Err(verdict) => reports::refusal(verdict, out),
         Ok(program) => {
@@ -75,6 +73,7 @@ fn session(text: &[u8], input: &[u8], out: &mut [u8]) -> usize
 }
 
 // What a reader gives, at the front of the memory lent, and how many bytes: it is read until the memory is full, it ends, or a read fails.
+// By hand, and not `read_to_end`: nothing is allocated, and what was read before an error counts.
 fn read_full<R: Read>(reader: &mut R, room: &mut [u8]) -> usize
     ensures in_bounds { result ≤ length room.new }
     ensures prefix { result ≡ length (take result room.new) }

@@ -138,10 +138,8 @@ impl<'t, R: Reading> Reader<'t, R> {
         }
     }
 
-    // One reader for the joined items of a product, a sum, a conjunction and a guard is no plainer: it takes the item's reader as a closure,
-    // and a closure in a cycle of calls needs clauses of its own, which are longer than the loop.
-    //
-    // "a product is factors joined by `*`"
+    // "a product is factors joined by `*`". One reader for the joined items of a product, a sum, a conjunction and a guard is no plainer: it takes the
+    // item's reader as a closure, and a closure in a cycle of calls needs clauses and a measure of its own, beside the six lines of the loop.
     #[inline(always)]
     #[cycle(bracketed_expression_factor_product_sum)]
     fn product(&self, at: usize, left: usize) -> Parsed<R::Value>
@@ -204,7 +202,8 @@ impl<'t> Reader<'t, Values<'t>> {
     }
 }
 
-/// An expression in brackets, from the opening one on, by the byte that closes them: its value.
+/// An expression in brackets, from the opening one on, by the byte that closes them: its value. This and `expression` are public, and keep text, cells
+/// and place as parameters.
 pub fn bracketed(
     s: &[u8],
     at: usize,

@@ -14,9 +14,9 @@ pub fn byte_at(s: &[u8], at: usize) -> u8
     s.get(at).copied().unwrap_or(0)
 }
 
-// A byte as a digit.
+/// A byte as a digit, if it is one.
 #[tactic(auto, unfolding(crate::specs::Bytes::digit))]
-fn digit(b: u8) -> Option<usize>
+pub fn digit(b: u8) -> Option<usize>
     ensures { result ≡ Bytes.digit b }
 {
     match b {

@@ -1,4 +1,4 @@
-// Decimals, variables, expressions and guards, read straight from the text. Each reader works its value out while it reads.
+// Decimals, variables, expressions and guards, read straight from the text. A reader works out what its reading gives of each part while it reads.
 #![tactic(auto)]
 
 use layout::{Label, ObjectNumber};
@@ -23,7 +23,7 @@ pub struct Here {
     pub label: Label,
 }
 
-// What a method's variables are below.
+// What a method's variables are below. Made in three places, of three types that hold both numbers in other widths: a `From` for each is as long.
 #[derive(Clone, Copy)]
 pub struct Limits {
     pub attrs: usize,
@@ -37,7 +37,7 @@ pub struct Around {
     pub here: Here,
 }
 
-// "A factor is a decimal 0..2147483647, a variable, `self`, `caller`, or an expression in round brackets": its first byte tells which.
+// What a factor begins with, `Nothing` among it, as the definition has it: "A factor is a decimal 0..2147483647, a variable, `self`, `caller`, or an expression in round brackets": its first byte tells which.
 #[derive(Clone, Copy)]
 pub enum Start {
     Decimal,
@@ -48,7 +48,7 @@ pub enum Start {
     Nothing,
 }
 
-// "an atom is `wait`, a variable followed by `?`, an expression in square brackets, or a guard in round brackets": its first byte tells.
+// The same of an atom: "an atom is `wait`, a variable followed by `?`, an expression in square brackets, or a guard in round brackets": its first byte tells.
 #[derive(Clone, Copy)]
 pub enum AtomStart {
     Wait,

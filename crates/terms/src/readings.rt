@@ -62,7 +62,8 @@ pub trait GuardReading: Reading {
         ensures { result ≡ (guard_operations self.now).join j left right };
 }
 
-/// Acceptance alone: nothing is worked out.
+/// Acceptance alone: nothing is worked out. It reads in some half of the instructions that `Values` takes. The statement reader of `code` keeps the
+/// values that it reads, so no entry reads by it.
 #[derive(Clone, Copy)]
 pub struct Accept;
 

@@ -1,5 +1,5 @@
-// "Every line is key=value": a line with the expected key, and one with a number. A line that does not stand as it should is told with a number
-// that refuses it unless it is broken; only of the first such line is it then asked whether it is (`fault`).
+// "Every line is key=value": a line with the expected key, and one with a number. A line that does not stand as it should is told with what
+// refuses it unless it is broken; only of the first such line is it then asked whether it is (`fault`, which takes any number: it is public).
 ghost use Rattle.std.specs.Prelude.{true, ◌≡◌, ◌≤◌, length};
 ghost use Rattle.text.specs.InOrder as InOrder;
 ghost use Rattle.text.specs.Lines as Lines;

@@ -9,6 +9,7 @@ pub mod key_lines;
 pub mod numbers;
 pub mod reader;
 
+use whole::refusals;
 use whole::refusals::Refusal;
 
 // A number given back, with the line of the text that it names: 0 where it names none.
@@ -18,6 +19,12 @@ pub struct Verdict {
     pub number: u32,
     pub line: u32,
 }
+
+/// "0 is acceptance", and it names no line.
+pub const ACCEPTED: Verdict = Verdict {
+    number: refusals::ACCEPTED,
+    line: 0,
+};
 
 // Where reading stands: the place in the text where a line begins, and its number, "counted from 1".
 #[derive(Clone, Copy, Debug, PartialEq, Eq)]

@@ -1,6 +1,5 @@
-// A text and the place where reading stands, together: the number of every line of a model text is read, and the end of every code line found, through
-// it. Each function here is thin: the work is left to `sound_line` and `fed_number`, and `line_at` and `number_at`, whose parameters are plain, serve
-// every caller.
+// "a reader that carries text and place together": the number of every line of a model text is read, and the end of every code line found, through
+// it. It is thin: the work is left to `sound_line` and `fed_number`, and `line_at` and `number_at`, whose parameters are plain, serve every caller.
 ghost use Rattle.std.specs.Prelude.{◌≡◌, ◌≤◌, length};
 ghost use Rattle.terms.specs.Vocabulary.Answers as Answers;
 ghost use Rattle.text.specs.Vocabulary.KeyLines as KeyLines;

@@ -1,12 +1,11 @@
 // "choices from standard input (at most 4,096 bytes), a line each"
 ghost use Rattle.std.specs.Prelude.{◌≡◌, ◌+◌, ◌≤◌, length, take, drop};
-ghost use Rattle.terms.specs.Bytes as Bytes;
 ghost use Rattle.rules.specs.Kinds as Kinds;
 ghost use Rattle.session.specs.Choices as Choices;
 ghost use Rattle.transcript.specs.Vocabulary.InputLines as InputLines;
 ghost use Rattle.transcript.specs.Vocabulary.KindNames as KindNames;
 
-use rules::{Choice, Kind};
+use rules::{Choice, KINDS, Kind};
 use terms::leaves;
 
 // "(at most 4,096 bytes)"
@@ -15,24 +14,8 @@ const LONGEST_INPUT: usize = 4096;
 // "a number not 1 to 9 digits"
 const MOST_DIGITS: usize = 9;
 
-const KINDS: [Kind; 5] = [
-    Kind::Exec,
-    Kind::Arrive,
-    Kind::Bind,
-    Kind::Start,
-    Kind::Deliver,
-];
-
 // "A line of another form, or a number not 1 to 9 digits, is kind 0 with number 0."
 const NO_CHOICE: Choice = Choice { kind: 0, number: 0 };
-
-// A byte as a digit.
-#[tactic(auto, unfolding(terms::specs::Bytes::digit))]
-fn digit(b: u8) -> Option<usize>
-    ensures { result ≡ Bytes.digit b }
-{
-    b.is_ascii_digit().then(|| usize::from(b - b'0'))
-}
 
 // One to nine digits and nothing else, as the number that they write; leading zeros may stand.
 #[tactic(auto, using(crate::proofs::DigitsAlone::alone_empty, crate::proofs::DigitsAlone::alone_long, crate::proofs::DigitsAlone::alone_within, crate::proofs::DigitsAlone::digits_ended, crate::proofs::DigitsAlone::digits_other))]
@@ -44,7 +27,7 @@ fn digits_alone(s: &[u8]) -> Option<usize>
     }
     let mut n = 0;
     for &b in s {
-        n = n * 10 + digit(b)?;
+        n = n * 10 + leaves::digit(b)?;
     }
     Some(n)
 }

@@ -44,7 +44,7 @@ fn accepted_in(answers: &[i32]) -> u32
         .count() as u32
 }
 
-// How many were refused: all others. That the answers are few stays a clause: the runner lends them by a slice of its own.
+// How many were refused: all others. That the answers are few stays a clause, here and beside it: the runner lends a slice, of any number of them.
 #[tactic(auto, using(crate::proofs::Reporting::all_counted))]
 fn refused_in(answers: &[i32]) -> u32
     requires { length answers.now ≤ 4096 }
@@ -54,8 +54,7 @@ fn refused_in(answers: &[i32]) -> u32
 }
 
 // The answers to all choices of a run, how many were accepted and refused, and the objects and calls of the cells that it left: the bytes
-// at the front of the memory lent, and how many they are.
-
+// at the front of the memory lent, and how many they are. Memory of the caller's and a count: nothing is allocated.
 pub fn report(answers: &[i32], cells: &[i32], out: &mut [u8]) -> usize
     requires answers_len_bound { length answers.now ≤ 4096 }
     requires in_bounds { 82000 ≤ length out.old }

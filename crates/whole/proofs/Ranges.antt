@@ -2,13 +2,13 @@
 use Rattle.std.specs.Prelude.{Option, None, Some, Result, Ok, Err, OkIff}
 use Rattle.std.specs.Result.{result_ok}
 use Prim.Native.Nat.{ℕ, zero, suc, ◌+◌, ◌-◌, ◌*◌, ◌^◌, ◌≤◌, ◌<◌}
-use mathlib.Core.Bool.{Bool, true, false, cond}
+use mathlib.Core.Bool.{Bool, true, false, cond, false≢true}
 use mathlib.Core.Path.{◌≡◌, refl, sym, ap, ◌∙◌}
 use native.Mathlib.Omega.{arith}
-use borrow.Author.Tests.{ltb-true, lt-ltb, eqb-true, eqb-false, eq-eqb, ne_eqb}
+use borrow.Author.Tests.{ltb-true, lt-ltb, le-ltb, eqb-true, eqb-false, eq-eqb, ne_eqb}
 use lib.Dec.{ltb, eqb}
 use lib.IntN.{ℤ, pos, negsuc, neg_ℤ, sub_ℕ, ◌+ℤ◌, ◌-ℤ◌, ◌*ℤ◌}
-use lib.Signed.{mag}
+use lib.Signed.{mag, lt_z}
 use mir.Syntax.{w32, w64}
 use mir.Val.{SFits, of_z, to_z}
 use mir.ValLaws.{to_z-of_z}
@@ -17,6 +17,21 @@ use Rattle.whole.specs.declared.Operator.{Operator}
 use Rattle.whole.specs.declared.Operator.TheVariants.{Plus, Minus, Times, Less, Equal}
 use Rattle.whole.specs.Whole.{in_range, within, eq_z, apply, natural, nat}
 use Rattle.whole.specs.Vocabulary.Summands.{summand}
+
+-- below the least, above the largest, and neither
+pub below_range : (z : ℤ) → lt_z z (negsuc 2147483647) ≡ true → None ≡ within z
+unfolding within in_range
+below_range (pos n) h = absurd (false≢true h)
+below_range (negsuc n) h = rw (le-ltb n 2147483648 (omega (arith, ltb-true 2147483647 n h)), within)
+
+pub above_range : (z : ℤ) → lt_z (pos 2147483647) z ≡ true → None ≡ within z
+unfolding within in_range
+above_range (pos n) h = rw (le-ltb n 2147483648 (omega (arith, ltb-true 2147483647 n h)), within)
+above_range (negsuc n) h = absurd (false≢true h)
+
+pub within_range : (z : ℤ) → mag z < 2147483648 → Some z ≡ within z
+unfolding within in_range
+within_range z h = rw (lt-ltb (mag z) 2147483648 h, within)
 
 -- what a conversion to 32 bits tells is whether a result is in range
 tried_within : {E : Type 0} (z : ℤ) (tried : Result ℤ E) → OkIff tried (SFits w32 z) z → result_ok tried ≡ within z

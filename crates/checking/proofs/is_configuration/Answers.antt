@@ -20,4 +20,4 @@ returns-else-all_objects c =
           passed _ _ (sym w.if-unused_zero.ensures) (stopped _ _ (sym told ∙ sym w.value-is ∙ c.if-all_objects.false))
       | else-unused_zero w ↦ stopped _ _ (sym w.if-unused_zero.ensures)
     ] in
-    c.if-all_objects.false ∙ failed ∙ counts_right m cells c.requires.cells_len (sym c.if-not-counts_hold.ensures)
+    c.if-all_objects.false ∙ failed ∙ counts_right m cells c.requires.all_cells (sym c.if-not-counts_hold.ensures)

@@ -11,4 +11,4 @@ use Rattle.entries.proofs.next.Goals as goal
 pub returns-clause-configuration : goal.returns-clause-configuration
 returns-clause-configuration c =
     let ok = subst (λ (k : Kept). AcceptedModel (model_of k.text)) c.program.view_is (accepted _ _ _ c.program.invariant) in
-    ap (is_configuration (model_of c.args.program.now.text)) c.next.ensures.1 ∙ after_keeps _ ok _ c.requires.cells_value _
+    ap (is_configuration (model_of c.args.program.now.text)) c.next.ensures.1 ∙ after_keeps _ ok _ c.requires.configuration _

@@ -14,7 +14,7 @@ use Rattle.lookup.proofs.binds_to.Goals as goal
 pub row-attrs-requires : goal.row-attrs-requires
 row-attrs-requires c =
     let within = subst (λ t. c.args.class < classes_in t) (sym c.table.view_is) c.requires.class_bound in
-    record { r_bound = omega (arith, class_few _ c.table.invariant _ within) }
+    record { row_bound = omega (arith, class_few _ c.table.invariant _ within) }
 
 pub takes-requires-clause-class_bound : goal.takes-requires-clause-class_bound
 takes-requires-clause-class_bound c =

@@ -15,7 +15,7 @@ returns c s m b =
     let j = c.of_call-2 in
     let n = c.of_call-3 in
     let found = ap (λ z. as_object (object_of c.args.cells.now z)) (sym (handed _ _ c.of_call.type_inv c.of_call.ensures)) ∙ sym c.object_of.ensures in
-    let callee_is = object_is _ _ c.requires.l_value c.in_ok-callee.callee (found ∙ c.in_ok-callee.was) in
+    let callee_is = object_is _ _ c.requires.callee_in_use c.in_ok-callee.callee (found ∙ c.in_ok-callee.was) in
     let h : ClassSaid m (of_object c.args.cells.now c.in_ok-callee.callee.0 class) (Some c.in_ok-class.class) = c.in_ok-class.ensures.said s m b in
     subst (λ x. BodySaid c.args.table.now m x c.binds_to.result)
     (body_bound m _ _ _ callee_is c.in_ok-class.class h.0 _ _ (handed _ _ j.type_inv j.ensures) (handed _ _ n.type_inv n.ensures))

@@ -4,4 +4,4 @@ use Rattle.lookup.proofs.Saying.{class_few}
 use Rattle.lookup.proofs.class_runs.Goals as goal
 
 pub row-requires : goal.row-requires
-row-requires c = record { r_bound = omega (arith, class_few _ c.table.invariant c.args.class (omega arith)) }
+row-requires c = record { row_bound = omega (arith, class_few _ c.table.invariant c.args.class (omega arith)) }

@@ -5,7 +5,7 @@ use Rattle.runner.proofs.Playing.{none_played, one_played, all_played}
 use Rattle.runner.proofs.play.Goals as goal
 
 pub loop-at-init : goal.loop-at-init
-loop-at-init c = none_played _ _ _ _ _ c.part_read-read.ensures c.requires.cells_value
+loop-at-init c = none_played _ _ _ _ _ c.part_read-read.ensures c.requires.configuration
 
 pub loop-at-preserved : goal.loop-at-preserved
 loop-at-preserved c =

@@ -9,7 +9,7 @@ use Rattle.checking.proofs.objects.object_holds.Goals as goal
 pub row-attrs-requires : goal.row-attrs-requires
 row-attrs-requires c =
     let within = subst (λ t. c.in-Some.class < classes_in t) (sym c.table.view_is) c.in-Some.ensures.within in
-    record { r_bound = omega (arith, class_few _ c.table.invariant _ within) }
+    record { row_bound = omega (arith, class_few _ c.table.invariant _ within) }
 
 pub returns-then-attributes_zero : goal.returns-then-attributes_zero
 returns-then-attributes_zero c s m b =

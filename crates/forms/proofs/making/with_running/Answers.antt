@@ -11,7 +11,7 @@ with_call-requires c =
     let attributes = c.args.attributes.now in
     let kept =
     ap rows_in_use (c.with_object.ensures attributes (padded_whole _ attributes c.told-attributes))
-    ∙ rows_kept c.args.cells.now c.args.class _ attributes c.requires.cells_len c.requires.cells_bound in
+    ∙ rows_kept c.args.cells.now c.args.class _ attributes c.requires.all_cells c.requires.objects_within in
     omega (arith, kept)
 
 pub returns : goal.returns
@@ -21,7 +21,7 @@ returns c m o l st zs runs v =
     let attributes = c.args.attributes.now in
     let kept =
     ap rows_in_use (c.with_object.ensures attributes (padded_whole _ attributes c.told-attributes))
-    ∙ rows_kept cells c.args.class _ attributes c.requires.cells_len c.requires.cells_bound in
+    ∙ rows_kept cells c.args.class _ attributes c.requires.all_cells c.requires.objects_within in
     let object = ap (◌+ 1) c.objects_in_use.ensures in
     let label = ap (◌+ 1) c.rows_in_use.ensures in
     let d = c.with_object.new.cells in

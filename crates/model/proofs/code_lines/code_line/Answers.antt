@@ -84,5 +84,5 @@ returns c total bs e =
       _,
       value_read _ _ a.at _ code_plain _ key _ _ (found p) _ (line_taken a.text.now a.rows.now.table a.rows.now.shapes sized a.method a.i total a.at.line _ _ bs _ room h.1 to is),
       value_placed _ _ a.at (λ _ v. right v) code_plain _ key _ _ (found p) c.requires.placed,
-      line_left a.text.now a.rows.now.table a.rows.now.shapes sized a.method a.i total a.at.line _ _ bs _ room h.1 to is _ c.put.ensures,
+      line_left a.text.now a.rows.now.table a.rows.now.shapes sized a.method a.i total a.at.line _ _ bs _ room h.1 to is _ (rw c.from.ensures at c.put.ensures),
     )

@@ -35,7 +35,7 @@ put-requires-clause-small c =
     let params = most _ _ _ _ _ _ _ c.number_line-2.ensures c.in_ok-params.was in
     let locals = most _ _ _ _ _ _ _ c.number_line-3.ensures c.in_ok-locals.was in
     let count = most _ _ _ _ _ _ _ c.number_line-4.ensures c.in_ok-count.was in
-    (omega (arith, params, most_if _ _ _ c.most_params-highest.ensures), omega (arith, locals), omega (arith, count, c.most_lines.ensures), omega (arith, c.requires.j_bound))
+    (omega (arith, params, most_if _ _ _ c.most_params-highest.ensures), omega (arith, locals), omega (arith, count, c.most_lines.ensures), omega (arith, c.requires.method_bound))
 
 pub returns : goal.returns
 unfolding Tells read_method ◌>>=◌ done lines_begun

@@ -15,14 +15,14 @@ returns-then-not-in_stage c = must_failed _ _ _ _ (sym c.in_stage.ensures ∙ c.
 pub returns-then-of_object-ne0 : goal.returns-then-of_object-ne0
 returns-then-of_object-ne0 c =
     let callee = c.of_call-callee in
-    let found = callee_found _ _ _ callee.type_inv callee.ensures c.requires.l_value _ c.object_of.ensures _ _ c.in_ok-object.ensures.value in
+    let found = callee_found _ _ _ callee.type_inv callee.ensures c.requires.callee_in_use _ c.object_of.ensures _ _ c.in_ok-object.ensures.value in
     start_busy _ _ _ _ (sym c.in_stage.ensures ∙ c.if-not-in_stage.false) found _ c.of_object.ensures
     (is_other _ c.of_object.type_inv c.if-of_object-ne0.true)
 
 pub returns-in_err-guard : goal.returns-in_err-guard
 returns-in_err-guard c =
     let callee = c.of_call-callee in
-    let found = callee_found _ _ _ callee.type_inv callee.ensures c.requires.l_value _ c.object_of.ensures _ _ c.in_ok-object.ensures.value in
+    let found = callee_found _ _ _ callee.type_inv callee.ensures c.requires.callee_in_use _ c.object_of.ensures _ _ c.in_ok-object.ensures.value in
     start_idle _ _ _ _ (sym c.in_stage.ensures ∙ c.if-not-in_stage.false) found _ c.of_object.ensures
     (is_zero _ c.of_object.type_inv c.if-of_object-ne0.false) _ _
     (did_not_fit _ _ _ _ _ (c.in_err-guard.ensures.value ∙ ap (λ w. ok_or w OutOfRange) c.ready.ensures) c.from_residual-in_err-guard.ensures.1)
@@ -31,7 +31,7 @@ pub returns-then-not-is_true : goal.returns-then-not-is_true
 unfolding Refusing.number_of
 returns-then-not-is_true c =
     let callee = c.of_call-callee in
-    let found = callee_found _ _ _ callee.type_inv callee.ensures c.requires.l_value _ c.object_of.ensures _ _ c.in_ok-object.ensures.value in
+    let found = callee_found _ _ _ callee.type_inv callee.ensures c.requires.callee_in_use _ c.object_of.ensures _ _ c.in_ok-object.ensures.value in
     start_idle _ _ _ _ (sym c.in_stage.ensures ∙ c.if-not-in_stage.false) found _ c.of_object.ensures
     (is_zero _ c.of_object.type_inv c.if-of_object-ne0.false) _ _
     (worked_out_lem _ _ _ _ c.in_ok-guard.guard _ (sym c.ready.ensures ∙ there _ _ _ c.in_ok-guard.ensures.value)
@@ -40,7 +40,7 @@ returns-then-not-is_true c =
 pub returns : goal.returns
 returns c =
     let callee = c.of_call-callee in
-    let found = callee_found _ _ _ callee.type_inv callee.ensures c.requires.l_value _ c.object_of.ensures _ _ c.in_ok-object.ensures.value in
+    let found = callee_found _ _ _ callee.type_inv callee.ensures c.requires.callee_in_use _ c.object_of.ensures _ _ c.in_ok-object.ensures.value in
     start_idle _ _ _ _ (sym c.in_stage.ensures ∙ c.if-not-in_stage.false) found _ c.of_object.ensures
     (is_zero _ c.of_object.type_inv c.if-of_object-ne0.false) _ _
     (worked_out_lem _ _ _ _ c.in_ok-guard.guard _ (sym c.ready.ensures ∙ there _ _ _ c.in_ok-guard.ensures.value)
