@@ -33,12 +33,17 @@ def blocks():
 
 
 def stripped(crate):
-    """A crate with its definitions and tables of cases alone."""
-    for path in (crate / "src").glob("*.rt"):
-        if path.name != "lib.rt":
-            path.unlink()
+    """A crate with its types, the numbers in them, its definitions and its tables of cases alone."""
     library = crate / "src" / "lib.rt"
-    library.write_text(re.sub(r"^pub mod .*\n", "", library.read_text(encoding="utf-8"), flags=re.M), encoding="utf-8")
+    for path in (crate / "src").glob("*.rt"):
+        if path == library:
+            continue
+        numbers = re.findall(r"^pub const \w+: \w+ = \d+;\n", path.read_text(encoding="utf-8"), flags=re.M)
+        if numbers:
+            path.write_text("\n".join(numbers), encoding="utf-8")
+        else:
+            path.unlink()
+            library.write_text(library.read_text(encoding="utf-8").replace(f"pub mod {path.stem};\n", ""), encoding="utf-8")
     for path in (crate / "proofs").iterdir():
         if path.is_dir():
             shutil.rmtree(path)
