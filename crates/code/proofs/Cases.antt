@@ -1,12 +1,17 @@
--- Where the lines of blocks go to, and where refused code values are placed, computed. Assumes nothing.
+-- Where the lines of blocks go to, where refused code values are placed, and what is gathered of arguments, computed. Assumes nothing.
+use Rattle.std.specs.Prelude.{None, Some, Ok, Err}
 use Prim.Native.Nat.{ℕ}
 use mathlib.Core.List.{List, [], ◌∷◌}
 use mathlib.Core.Path.{refl}
+use lib.IntN.{ℤ, pos}
+use Rattle.whole.specs.Whole.{Worked}
 use Rattle.whole.proofs.Tables.{Row, ◌is◌, Holds}
 use Rattle.terms.specs.Bytes.{Text, bytes}
 use Rattle.terms.specs.Vocabulary.Nothing.{nothing, guard_nothing}
 use Rattle.terms.specs.Parsed.{Parsed, got, bad, mapped}
+use Rattle.code.specs.declared.Arguments.{Arguments}
 use Rattle.code.specs.declared.Shape.{Shape}
+use Rattle.code.specs.Vocabulary.Answers.{no_arguments, gathered}
 use Rattle.code.specs.Partners.{goes_to}
 use Rattle.code.specs.Reader.{statement}
 use Rattle.code.proofs.Open.{code_open}
@@ -56,6 +61,31 @@ reading_table =
     ∷ (read [] is bad 0)
     ∷ []
 
+-- a value, and arguments of which each is one, or one is none: their first eight, and how many there are
+value : ℕ → Worked
+value n = Some (pos n)
+
+each : ℕ → List ℤ → Arguments
+each n zs = record { values = Ok zs; count = n }
+
+not_each : ℕ → List ℤ → Arguments
+not_each n zs = record { values = Err zs; count = n }
+
+numbers : ℕ → ℕ → ℕ → ℕ → ℕ → ℕ → ℕ → ℕ → List ℤ
+numbers a b c d e f g h = pos a ∷ pos b ∷ pos c ∷ pos d ∷ pos e ∷ pos f ∷ pos g ∷ pos h ∷ []
+
+gathered_table : List (Row Arguments)
+gathered_table =
+    (gathered no_arguments [] is each 0 (numbers 0 0 0 0 0 0 0 0))
+    ∷ (gathered no_arguments (value 1 ∷ value 3 ∷ []) is each 2 (numbers 1 3 0 0 0 0 0 0))
+    -- one that is none leaves those before it and after it
+    ∷ (gathered no_arguments (value 3 ∷ None ∷ value 5 ∷ []) is not_each 3 (numbers 3 0 5 0 0 0 0 0))
+    ∷ (gathered no_arguments (None ∷ []) is not_each 1 (numbers 0 0 0 0 0 0 0 0))
+    -- past the eighth only the count goes on, and one that is none is told
+    ∷ (gathered no_arguments (value 1 ∷ value 2 ∷ value 3 ∷ value 4 ∷ value 5 ∷ value 6 ∷ value 7 ∷ value 8 ∷ value 9 ∷ []) is each 9 (numbers 1 2 3 4 5 6 7 8))
+    ∷ (gathered no_arguments (value 1 ∷ value 2 ∷ value 3 ∷ value 4 ∷ value 5 ∷ value 6 ∷ value 7 ∷ value 8 ∷ None ∷ []) is not_each 9 (numbers 1 2 3 4 5 6 7 8))
+    ∷ []
+
 going_holds : Holds going_table
 unfolding code_open going_table shapes
 going_holds = (refl, (refl, (refl, (refl, (refl, (refl, tt))))))
@@ -64,3 +94,7 @@ reading_holds : Holds reading_table
 unfolding code_open reading_table read
 reading_holds =
     (refl, (refl, (refl, (refl, (refl, (refl, (refl, (refl, (refl, (refl, (refl, (refl, (refl, (refl, (refl, (refl, (refl, (refl, (refl, tt)))))))))))))))))))
+
+gathered_holds : Holds gathered_table
+unfolding code_open gathered_table value each not_each numbers
+gathered_holds = (refl, (refl, (refl, (refl, (refl, (refl, tt))))))

@@ -11,7 +11,7 @@ use Rattle.code.specs.Statements
 use Rattle.terms.proofs.Open.{terms_open}
 
 unfoldable pub code_open : Unit {0}
-unfolding terms_open Answers.no_arguments Answers.with_one Answers.gathered Answers.as_statement
+unfolding terms_open Answers.eight Answers.no_arguments Answers.with_one Answers.gathered Answers.as_statement
     Answers.arguments_of Answers.as_code Blocks.shape_of Blocks.shape_number Shapes.shape_at
     Shapes.shapes_in Blocks.is_shape Blocks.rank Blocks.closing Blocks.opening Blocks.without Blocks.with Blocks.through
     Blocks.through_all Blocks.all_closed Blocks.balanced Counting.present Counting.counted_on Counting.onward Counting.backward

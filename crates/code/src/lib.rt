@@ -54,10 +54,11 @@ pub enum Statement {
     Return(Option<i32>),
 }
 
-// Arguments worked out: the first eight of them (0 past the last), if each of all is a value, and how many there are.
+// Arguments worked out, and how many there are. The values are the first eight, with 0 for one that is no value and past the last: `Ok` where each
+// of all is a value, and else `Err`.
 #[derive(Clone, Copy, Debug, PartialEq, Eq)]
 pub struct Arguments {
-    pub values: Option<[i32; 8]>,
+    pub values: Result<[i32; 8], [i32; 8]>,
     pub count: usize,
 }
 
@@ -71,27 +72,25 @@ impl Arguments {
         ensures { result ≡ Answers.no_arguments }
     {
         Arguments {
-            values: Some([0; 8]),
+            values: Ok([0; 8]),
             count: 0,
         }
     }
 
     // One argument more; past the eighth only the count goes on.
-    #[tactic(auto, unfolding(crate::specs::Vocabulary::Answers::with_one))]
+    #[tactic(auto, unfolding(crate::specs::Vocabulary::Answers::eight, crate::specs::Vocabulary::Answers::with_one))]
     fn with_one(self, value: Option<i32>) -> Arguments
         requires { self.count + 1 < 2 ^ 64 }
         ensures { result ≡ Answers.with_one self value }
     {
-        let count = self.count + 1;
-        match (self.values, value) {
-            (Some(values), Some(z)) => Arguments {
-                values: Some(kept(values, self.count, z)),
-                count,
-            },
-            _ => Arguments {
-                values: None,
-                count,
-            },
+        let values = match (self.values, value) {
+            (Ok(values), Some(z)) => Ok(kept(values, self.count, z)),
+            (Err(values), Some(z)) => Err(kept(values, self.count, z)),
+            (Ok(values) | Err(values), None) => Err(values),
+        };
+        Arguments {
+            values,
+            count: self.count + 1,
         }
     }
 }

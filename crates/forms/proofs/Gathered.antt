@@ -1,6 +1,8 @@
 -- Arguments as the code gathers them tell what the definition does with them: either each has a value, and the values are these, with 0 for
 -- those that are missing, or one is out of range. Assumes nothing.
-use Rattle.std.specs.Prelude.{Some, None, option_map}
+use Rattle.std.specs.Prelude.{Some, None, Result, Ok, Err}
+use Rattle.std.specs.Result.{result_map_both, result_ok}
+use Rattle.std.proofs.lemmas.Option.{same_Some}
 use Prim.Native.Nat.{ℕ, zero, suc, ◌≤◌}
 use mathlib.Core.List.{List, [], ◌∷◌, ◌++◌, append_assoc, append-nil}
 use mathlib.Core.Path.{◌≡◌, refl, sym, ap, ap₂, ◌∙◌}
@@ -12,7 +14,7 @@ use Rattle.whole.specs.Refusals.{out_of_range}
 use Rattle.whole.proofs.Tested.{no_some}
 use Rattle.layout.specs.Layout.{padded}
 use Rattle.code.specs.declared.Arguments.{Arguments}
-use Rattle.code.specs.Vocabulary.Answers.{no_arguments, with_one, gathered}
+use Rattle.code.specs.Vocabulary.Answers.{eight, no_arguments, with_one, gathered}
 use Rattle.rules.specs.Next.{Next, refused, working, working_all}
 
 -- the first of so many equal values are that many of them
@@ -37,47 +39,64 @@ padded_more n ys z = set_after n n ys z (omega arith)
 pub record Gathers (ws : List Worked) (ys : List ℤ) (g : Arguments) : Type 0 where
   pub zs : List ℤ
   pub works : (k : List ℤ → Next) → working_all ws k ≡ k zs
-  pub values : g.values ≡ Some (padded 8 (ys ++ zs))
+  pub values : g.values ≡ Ok (padded 8 (ys ++ zs))
   pub count : g.count ≡ length (ys ++ zs)
 
--- once one is out of range, they have no values
-unfit_stays : (a : Arguments) (ws : List Worked) → a.values ≡ None → (gathered a ws).values ≡ None
-unfolding gathered with_one
-unfit_stays a [] e = e
-unfit_stays a (Some z ∷ ws) e = unfit_stays (with_one a (Some z)) ws (ap (option_map (λ zs. set zs a.count z)) e)
-unfit_stays a (None ∷ ws) e = unfit_stays (with_one a None) ws refl
+-- whether each is a value, as `ok` tells it
+module _ {T E : Type 0} where
+  pub fits : (r : Result T E) (t : T) → result_ok r ≡ Some t → r ≡ Ok t
+  fits (Ok s) t e = ap Ok (same_Some s t e)
+  fits (Err u) t e = absurd (no_some e)
+
+  pub fits_not : (r : Result T E) → result_ok r ≡ None → (u : E) × (r ≡ Err u)
+  fits_not (Ok s) e = absurd (no_some (sym e))
+  fits_not (Err u) e = (u, refl)
+
+  no_ok : {u : E} {t : T} → ◌≡◌ {A = Result T E} (Err u) (Ok t) → ⊥
+  no_ok e = no_some (ap result_ok e)
+
+-- one value more, in either case
+more : ℕ → ℤ → Result (List ℤ) (List ℤ) → Result (List ℤ) (List ℤ)
+more i z r = result_map_both (λ zs. set zs i z) (λ zs. set zs i z) r
+
+-- once one is out of range, not each is a value
+unfit_stays : (a : Arguments) (ws : List Worked) (us vs : List ℤ) → a.values ≡ Err us → (gathered a ws).values ≡ Ok vs → ⊥
+unfolding gathered with_one more
+unfit_stays a [] us vs e f = no_ok (sym e ∙ f)
+unfit_stays a (Some z ∷ ws) us vs e f = unfit_stays (with_one a (Some z)) ws (set us a.count z) vs (ap (more a.count z) e) f
+unfit_stays a (None ∷ ws) us vs e f = unfit_stays (with_one a None) ws (eight a.values) vs refl f
 
 -- some that have values, gathered after others
-fit_after : (a : Arguments) (ys : List ℤ) (ws : List Worked) → a.values ≡ Some (padded 8 ys) → a.count ≡ length ys
-    → (vs : List ℤ) → (gathered a ws).values ≡ Some vs → Gathers ws ys (gathered a ws)
-unfolding gathered with_one working working_all
+fit_after : (a : Arguments) (ys : List ℤ) (ws : List Worked) → a.values ≡ Ok (padded 8 ys) → a.count ≡ length ys
+    → (vs : List ℤ) → (gathered a ws).values ≡ Ok vs → Gathers ws ys (gathered a ws)
+unfolding gathered with_one more working working_all
 fit_after a ys [] v n vs e =
     let s = sym (append-nil ys) in
-    record { zs = []; works = λ k. refl; values = v ∙ ap (λ zs. Some (padded 8 zs)) s; count = n ∙ ap length s }
+    record { zs = []; works = λ k. refl; values = v ∙ ap (λ zs. Ok (padded 8 zs)) s; count = n ∙ ap length s }
 fit_after a ys (Some z ∷ ws) v n vs e =
     let g =
     fit_after (with_one a (Some z)) (ys ++ (z ∷ [])) ws
-    (ap₂ (λ o i. option_map (λ zs. set zs i z) o) v n ∙ ap Some (padded_more 8 ys z)) (omega (arith, length-append ys (z ∷ []))) vs e in
+    (ap₂ (λ o i. more i z o) v n ∙ ap Ok (padded_more 8 ys z)) (omega (arith, length-append ys (z ∷ []))) vs e in
     let s = append_assoc ys (z ∷ []) g.zs in
-    record { zs = z ∷ g.zs; works = λ k. g.works (λ zs. k (z ∷ zs)); values = g.values ∙ ap (λ zs. Some (padded 8 zs)) s; count = g.count ∙ ap length s }
-fit_after a ys (None ∷ ws) v n vs e = absurd (no_some (sym (unfit_stays (with_one a None) ws refl) ∙ e))
+    record { zs = z ∷ g.zs; works = λ k. g.works (λ zs. k (z ∷ zs)); values = g.values ∙ ap (λ zs. Ok (padded 8 zs)) s; count = g.count ∙ ap length s }
+fit_after a ys (None ∷ ws) v n vs e = absurd (unfit_stays (with_one a None) ws (eight a.values) vs refl e)
 
-unfit_after : (a : Arguments) (ws : List Worked) (vs : List ℤ) → a.values ≡ Some vs → (gathered a ws).values ≡ None
+unfit_after : (a : Arguments) (ws : List Worked) (vs us : List ℤ) → a.values ≡ Ok vs → (gathered a ws).values ≡ Err us
     → (k : List ℤ → Next) → working_all ws k ≡ refused out_of_range
-unfolding gathered with_one working working_all
-unfit_after a [] vs f e k = absurd (no_some (sym e ∙ f))
-unfit_after a (Some z ∷ ws) vs f e k =
-    unfit_after (with_one a (Some z)) ws (set vs a.count z) (ap (option_map (λ zs. set zs a.count z)) f) e (λ zs. k (z ∷ zs))
-unfit_after a (None ∷ ws) vs f e k = refl
+unfolding gathered with_one more working working_all
+unfit_after a [] vs us f e k = absurd (no_ok (sym e ∙ f))
+unfit_after a (Some z ∷ ws) vs us f e k =
+    unfit_after (with_one a (Some z)) ws (set vs a.count z) us (ap (more a.count z) f) e (λ zs. k (z ∷ zs))
+unfit_after a (None ∷ ws) vs us f e k = refl
 
 -- all the arguments of a statement, by what the code gathered
 module _ (ws : List Worked) (g : Arguments) (is : g ≡ gathered no_arguments ws) where
-  pub gathered_fit : (vs : List ℤ) → g.values ≡ Some vs → Gathers ws [] g
+  pub gathered_fit : (vs : List ℤ) → g.values ≡ Ok vs → Gathers ws [] g
   unfolding no_arguments padded
   gathered_fit vs e =
       let f = fit_after no_arguments [] ws refl refl vs (ap (λ (g : Arguments). g.values) (sym is) ∙ e) in
       record { zs = f.zs; works = f.works; values = ap (λ (g : Arguments). g.values) is ∙ f.values; count = ap (λ (g : Arguments). g.count) is ∙ f.count }
 
-  pub gathered_unfit : g.values ≡ None → (k : List ℤ → Next) → working_all ws k ≡ refused out_of_range
+  pub gathered_unfit : (us : List ℤ) → g.values ≡ Err us → (k : List ℤ → Next) → working_all ws k ≡ refused out_of_range
   unfolding no_arguments
-  gathered_unfit e = unfit_after no_arguments ws _ refl (ap (λ (g : Arguments). g.values) (sym is) ∙ e)
+  gathered_unfit us e = unfit_after no_arguments ws _ us refl (ap (λ (g : Arguments). g.values) (sym is) ∙ e)

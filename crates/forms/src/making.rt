@@ -130,7 +130,7 @@ pub fn creating(
     requires all_cells { length cells.old ≡ Layout.all_cells }
     ensures { (m : Model) (st : Standing) (ws : List Worked) → st.at ≡ running.line → Exec.class_runs m class ≡ runs → arguments ≡ Answers.gathered Answers.no_arguments ws → Done cells.old (Next.working_all ws (Exec.created m cells.old running.here.object.0 running.here.label.0 st x class)) result cells.new }
 {
-    let attributes = arguments.values.ok_or(Refusal::OutOfRange)?;
+    let attributes = arguments.values.ok().ok_or(Refusal::OutOfRange)?;
     created(cells, running, x, class, runs, attributes)
 }
 
@@ -148,6 +148,6 @@ pub fn calling(
     ensures { (m : Model) (st : Standing) (ws : List Worked) → st.at ≡ running.line → arguments ≡ Answers.gathered Answers.no_arguments ws → Done cells.old (Next.working callee (λ z. Next.working_all ws (Exec.issued m cells.old running.here.object.0 running.here.label.0 st x z method))) result cells.new }
 {
     let z = callee.ok_or(Refusal::OutOfRange)?;
-    let locals = arguments.values.ok_or(Refusal::OutOfRange)?;
+    let locals = arguments.values.ok().ok_or(Refusal::OutOfRange)?;
     issued(cells, running, x, z, method, arguments.count as u8, locals)
 }

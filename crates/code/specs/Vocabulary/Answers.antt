@@ -1,5 +1,6 @@
 -- Vocabulary of the code: what the definitions read of a code value, as the structs and enums that the code gives. Assumes nothing.
-use Rattle.std.specs.Prelude.{ℕ, ◌+◌, List, [], ◌∷◌, pos, replicate, set as set_at, None, Some, Result, Ok, Err, option_map}
+use Rattle.std.specs.Prelude.{ℕ, ◌+◌, List, [], ◌∷◌, ℤ, pos, replicate, set as set_at, None, Some, Result, Ok, Err}
+use Rattle.std.specs.Result.{result_map_both}
 use Rattle.whole.specs.Whole.{Worked}
 use Rattle.terms.specs.Parsed.{Parsed, got, bad}
 use Rattle.code.specs.declared.Arguments.{Arguments}
@@ -7,13 +8,18 @@ use Rattle.code.specs.declared.Statement as Declared
 use Rattle.code.specs.declared.Statement.TheVariants as Said
 use Rattle.code.specs.Statements.{Statement, skip, set, new, call, get, await, if, else, fi, while, od, return}
 
--- no arguments, and one more
+-- the first eight arguments, whether each of all is a value or one is none
+unfoldable pub eight : Result (List ℤ) (List ℤ) → List ℤ
+eight (Ok zs) = zs
+eight (Err zs) = zs
+
+-- no arguments, and one more; in the place of one that is no value the 0 stays
 unfoldable pub no_arguments : Arguments
-no_arguments = record { values = Some (replicate 8 (pos 0)); count = 0 }
+no_arguments = record { values = Ok (replicate 8 (pos 0)); count = 0 }
 
 unfoldable pub with_one : Arguments → Worked → Arguments
-with_one a (Some z) = record { values = option_map (λ zs. set_at zs a.count z) a.values; count = a.count + 1 }
-with_one a None = record { values = None; count = a.count + 1 }
+with_one a (Some z) = record { values = result_map_both (λ zs. set_at zs a.count z) (λ zs. set_at zs a.count z) a.values; count = a.count + 1 }
+with_one a None = record { values = Err (eight a.values); count = a.count + 1 }
 
 -- a list of arguments, gathered from the left
 unfoldable pub gathered : Arguments → List Worked → Arguments

@@ -3,7 +3,7 @@ use Rattle.std.proofs.Common.{refl, sym, ap, ◌∙◌, arith}
 use Rattle.whole.specs.Vocabulary.Refusing as Refusing
 use Rattle.whole.proofs.Ranges.{handed}
 use Rattle.rules.specs.Exec.{issued}
-use Rattle.forms.proofs.Gathered.{gathered_fit, gathered_unfit}
+use Rattle.forms.proofs.Gathered.{fits, fits_not, gathered_fit, gathered_unfit}
 use Rattle.forms.proofs.MakingLaws.{same_done}
 use Rattle.forms.proofs.Written.{there, not_found, worked_out_lem, did_not_fit}
 use Rattle.forms.proofs.making.calling.Goals as goal
@@ -15,11 +15,11 @@ pub returns-in_err-locals : goal.returns-in_err-locals
 unfolding Refusing.number_of
 returns-in_err-locals c m st ws at is =
     worked_out_lem _ _ _ _ _ _ (there _ _ _ c.in_ok-z.ensures.value)
-    (not_found _ _ _ _ _ _ c.in_err-locals.ensures.value c.from_residual-in_err-locals.ensures.1 (λ none. gathered_unfit ws _ is none _))
+    (not_found _ _ _ _ _ _ c.in_err-locals.ensures.value c.from_residual-in_err-locals.ensures.1 (λ none. let u = fits_not _ (sym c.ok.ensures.value ∙ none) in gathered_unfit ws _ is u.0 u.1 _))
 
 pub returns : goal.returns
 returns c m st ws at is =
-    let fit = there _ _ _ c.in_ok-locals.ensures.value in
+    let fit = fits _ _ (sym c.ok.ensures.value ∙ there _ _ _ c.in_ok-locals.ensures.value) in
     let g = gathered_fit ws _ is _ fit in
     let a = c.args in
     let z = sym (handed c.in_ok-z.z _ (omega arith) refl) in
