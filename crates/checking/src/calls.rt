@@ -93,7 +93,8 @@ fn bound_holds(program: &Program<'_>, cells: &[i32], l: Label) -> bool
     let Some(at) = lookup::standing_of(&program.table(), cells, l) else {
         return false;
     };
-    let shape = Shape::from(lines::shape(&program.rows.shapes, at));
+    let shapes = program.shapes;
+    let shape = Shape::from(lines::shape(shapes, at));
     locals_zero(cells, l, at.body.locals) && line_holds(cells, l, shape)
 }
 

@@ -113,7 +113,7 @@ fn drive_in(text: &[u8], cells: &mut [i32], order: &[Kind], budget: u32) -> Resu
     ensures cells_after { cells.new ≡ (Entries.drive_in order.now text.now cells.old budget).cells }
 {
     let mut rows = Rows::new();
-    let program = crate::on_configuration(text, &mut rows, cells)?;
+    let program = crate::on_configuration(text, &mut rows.table, &mut rows.shapes, cells)?;
     if budget > MOST_STEPS {
         return Err(Verdict::from(Refusal::BudgetTooLarge));
     }

@@ -16,7 +16,7 @@ ghost use Rattle.entries.specs.Vocabulary.Checked as Checked;
 use layout::writers::NewCall;
 use layout::{ObjectNumber, stages, writers};
 use lookup::program::Program;
-use model::{Rows, judging};
+use model::{Rows, judging, table};
 use rules::Choice;
 use text::Verdict;
 use whole::refusals::Refusal;
@@ -63,44 +63,74 @@ fn next(program: &Program<'_>, cells: &mut [i32], choice: Choice) -> Result<(), 
     performing::next(program, cells, choice)
 }
 
-// The text, then 10: the program, or the verdict that every entry then gives.
+// The text, then 10: the table and the shapes that belong to it, or the verdict that every entry then gives.
 #[tactic(auto, using(crate::proofs::Outcomes::not_all), unfolding(engine::specs::Entries::at_no_line, whole::specs::Vocabulary::Refusing::number_of))]
-fn on_model<'t>(text: &'t [u8], rows: &'t mut Rows, cells: &[i32]) -> Result<Program<'t>, Verdict>
+fn on_model(
+    text: &[u8],
+    table: &mut [u16; table::SIZE],
+    shapes: &mut [u8; table::LINES],
+    cells: &[i32],
+) -> Result<(), Verdict>
     ensures refused { IfErr result (Checked.Refuses (Entries.on_model text.now cells.now) cells.now) }
-    ensures goes_on { IfOk result (λ program. Checked.GoesOn (Entries.on_model text.now cells.now) (Known.model_of program.text)) }
+    ensures goes_on { OnOk result (Checked.GoesOn (Entries.on_model text.now cells.now) (Known.model_of text.now)) }
     ensures all { OnOk result (length cells.now ≡ Layout.all_cells) }
-    ensures accepted { OnOk result (Judge.judged text.now ≡ Judge.model (Known.model_of text.now)) }
-    ensures of_text { IfOk result (λ program. program.text ≡ text.now) }
+    ensures known { OnOk result (Known.Known text.now table.new shapes.new) }
 {
-    judging::read(text, rows)?;
+    judging::read(text, table, shapes)?;
     if cells.len() != layout::ALL_CELLS {
         return Err(Verdict::from(Refusal::CellsNotAll));
     }
-    Ok(Program { text, rows })
+    Ok(())
 }
 
 // Then 11.
 #[tactic(auto, using(crate::proofs::Outcomes::configured, crate::proofs::Outcomes::not_configured), unfolding(engine::specs::Entries::at_no_line, whole::specs::Vocabulary::Refusing::number_of))]
 fn on_configuration<'t>(
     text: &'t [u8],
-    rows: &'t mut Rows,
+    table: &'t mut [u16; table::SIZE],
+    shapes: &'t mut [u8; table::LINES],
     cells: &[i32],
 ) -> Result<Program<'t>, Verdict>
     ensures refused { IfErr result (Checked.Refuses (Entries.on_configuration text.now cells.now) cells.now) }
     ensures goes_on { IfOk result (λ program. Checked.GoesOn (Entries.on_configuration text.now cells.now) (Known.model_of program.text)) }
     ensures configuration { IfOk result (λ program. is_configuration (Known.model_of program.text) cells.now ≡ true) }
 {
-    let program = on_model(text, rows, cells)?;
+    on_model(text, table, shapes, cells)?;
+    let program = Program {
+        text,
+        table,
+        shapes,
+    };
     if !checking::is_configuration(&program, cells) {
         return Err(Verdict::from(Refusal::NoConfiguration));
     }
     Ok(program)
 }
 
-/// Start, with the rows in memory that is lent: of an accepted text the program serves the steps after it.
-pub fn start_in<'t>(
+/// Start, with the table and the shapes in memory that is lent: of an accepted text they serve the steps after it.
+pub fn start_in(
+    text: &[u8],
+    table: &mut [u16; table::SIZE],
+    shapes: &mut [u8; table::LINES],
+    cells: &mut [i32],
+) -> Result<(), Verdict>
+    ensures value { Checked.verdict_of result ≡ (Entries.start text.now cells.old).verdict }
+    ensures refused { IfErr result (λ v. v.number ≢ Refusals.accepted) }
+    ensures accepted { OnOk result (Judge.judged text.now ≡ Judge.model (Known.model_of text.now)) }
+    ensures known { OnOk result (Known.Known text.now table.new shapes.new) }
+    ensures configuration { OnOk result (is_configuration (Known.model_of text.now) cells.new ≡ true) }
+    ensures cells_after { cells.new ≡ (Entries.start text.now cells.old).cells }
+{
+    on_model(text, table, shapes, cells)?;
+    write_fresh(cells);
+    Ok(())
+}
+
+/// The same, and the program of an accepted text, which holds what was lent.
+pub fn start_program<'t>(
     text: &'t [u8],
-    rows: &'t mut Rows,
+    table: &'t mut [u16; table::SIZE],
+    shapes: &'t mut [u8; table::LINES],
     cells: &mut [i32],
 ) -> Result<Program<'t>, Verdict>
     ensures value { Checked.verdict_of result ≡ (Entries.start text.now cells.old).verdict }
@@ -110,9 +140,12 @@ pub fn start_in<'t>(
     ensures configuration { OnOk result (is_configuration (Known.model_of text.now) cells.new ≡ true) }
     ensures cells_after { cells.new ≡ (Entries.start text.now cells.old).cells }
 {
-    let program = on_model(text, rows, cells)?;
-    write_fresh(cells);
-    Ok(program)
+    start_in(text, table, shapes, cells)?;
+    Ok(Program {
+        text,
+        table,
+        shapes,
+    })
 }
 
 // Start: every cell is written, whatever it held.
@@ -121,7 +154,7 @@ pub fn start(text: &[u8], cells: &mut [i32]) -> Verdict
     ensures cells_after { cells.new ≡ (Entries.start text.now cells.old).cells }
 {
     let mut rows = Rows::new();
-    verdict_of(start_in(text, &mut rows, cells))
+    verdict_of(start_in(text, &mut rows.table, &mut rows.shapes, cells))
 }
 
 // A step that is refused, or is taken.
@@ -130,7 +163,7 @@ fn stepped(text: &[u8], cells: &mut [i32], choice: Choice) -> Result<(), Verdict
     ensures cells_after { cells.new ≡ (Entries.step text.now cells.old choice).cells }
 {
     let mut rows = Rows::new();
-    let program = on_configuration(text, &mut rows, cells)?;
+    let program = on_configuration(text, &mut rows.table, &mut rows.shapes, cells)?;
     next(&program, cells, choice)?;
     Ok(())
 }

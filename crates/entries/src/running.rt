@@ -59,7 +59,7 @@ fn ran(
     ensures answers_after { answers.new ≡ (Entries.run text.now cells.old choices.now answers.old).answers }
 {
     let mut rows = Rows::new();
-    let program = crate::on_configuration(text, &mut rows, cells)?;
+    let program = crate::on_configuration(text, &mut rows.table, &mut rows.shapes, cells)?;
     if answers.len() != choices.len() {
         return Err(Verdict::from(Refusal::AnswersDiffer));
     }

@@ -5,7 +5,7 @@ ghost use Rattle.model.specs.Vocabulary.Known.{Known, model_of};
 ghost use Rattle.model.specs.Vocabulary.Table as Rows;
 ghost use Rattle.lookup.specs.Vocabulary.Programs as Programs;
 
-use model::{Rows, table};
+use model::table;
 use std::marker::Model;
 
 /// The table of some text with an accepted model. In a clause it is the list of its numbers.
@@ -22,19 +22,20 @@ impl<'t> Model for Table<'t> {
     ghost invariant = { λ t. Programs.Told t.rows.now };
 }
 
-/// An accepted text, with the rows and the shapes that lead to its lines. In a clause it is the three of them.
+/// An accepted text, with the table and the shapes that lead to its lines. In a clause it is the three of them.
 #[derive(Drop)]
 pub struct Program<'t> {
     pub text: &'t [u8],
-    pub rows: &'t Rows,
+    pub table: &'t [u16; table::SIZE],
+    pub shapes: &'t [u8; table::LINES],
 }
 
 impl<'t> Model for Program<'t> {
     ghost Value = { Programs.Kept };
 
-    ghost view = { λ p. record { text = p.text.now; table = p.rows.now.table; shapes = p.rows.now.shapes } };
+    ghost view = { λ p. record { text = p.text.now; table = p.table.now; shapes = p.shapes.now } };
 
-    ghost invariant = { λ p. Known p.text.now p.rows.now.table p.rows.now.shapes };
+    ghost invariant = { λ p. Known p.text.now p.table.now p.shapes.now };
 }
 
 impl<'t> Program<'t> {
@@ -44,8 +45,6 @@ impl<'t> Program<'t> {
         ensures value { result ≡ self.now.table }
         ensures belongs { Belongs self.now.text result (model_of self.now.text) }
     {
-        Table {
-            rows: &self.rows.table,
-        }
+        Table { rows: self.table }
     }
 }

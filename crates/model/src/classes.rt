@@ -5,14 +5,15 @@ ghost use Rattle.text.specs.Vocabulary.Readings as Readings;
 ghost use Rattle.model.specs.ModelText as ModelText;
 ghost use Rattle.model.specs.Vocabulary.Leaving as Leaving;
 
-use crate::{ClassHead, Row, Rows, bounds, methods, table};
+use crate::{ClassHead, Row, bounds, methods, table};
 use text::{At, Failed, key_lines};
 
 // So many methods, after so many code lines. This loop, that of the classes and that of the code lines stay three: what each leaves is said of
 // the rows that it writes, and of what a closure writes nothing would be known after it.
 fn all_methods(
     text: &[u8],
-    rows: &mut Rows,
+    table: &mut [u16; table::SIZE],
+    shapes: &mut [u8; table::LINES],
     at: At,
     class: ClassHead,
     count: u32,
@@ -20,12 +21,12 @@ fn all_methods(
 ) -> Result<(u32, At), Failed>
     requires placed { Readings.Placed text.now at }
     requires count_bound { (count ≤ 8) × (total ≤ 512) }
-    ensures { Readings.Tells text.now (Leaving.MethodsLeft text.now rows.old.table rows.old.shapes rows.new.table rows.new.shapes class count total) result (Readings.read_at (InOrder.each count 0 (Leaving.between rows.old.table total) (ModelText.read_method class.classes class.attrs class.run)) text.now at) }
+    ensures { Readings.Tells text.now (Leaving.MethodsLeft text.now table.old shapes.old table.new shapes.new class count total) result (Readings.read_at (InOrder.each count 0 (Leaving.between table.old total) (ModelText.read_method class.classes class.attrs class.run)) text.now at) }
 {
     let mut here = at;
     let mut all = total;
     for j in 0..count {
-        (all, here) = methods::method(text, rows, here, class, j, all)?;
+        (all, here) = methods::method(text, table, shapes, here, class, j, all)?;
     }
     Ok((all, here))
 }
@@ -34,7 +35,8 @@ fn all_methods(
 #[tactic(auto, using(crate::proofs::Passing::most, crate::proofs::Passing::next_placed), unfolding(text::specs::Lines::plain_byte, text::specs::Lines::plain_bytes))]
 pub fn class(
     text: &[u8],
-    rows: &mut Rows,
+    table: &mut [u16; table::SIZE],
+    shapes: &mut [u8; table::LINES],
     at: At,
     classes: u32,
     k: u32,
@@ -42,7 +44,7 @@ pub fn class(
 ) -> Result<(u32, At), Failed>
     requires placed { Readings.Placed text.now at }
     requires class_bound { (k < classes) × (classes ≤ 16) × (total ≤ 512) }
-    ensures { Readings.Tells text.now (Leaving.ClassLeft text.now rows.old.table rows.old.shapes rows.new.table rows.new.shapes classes k total) result (Readings.read_at (ModelText.read_class classes k (Leaving.between rows.old.table total)) text.now at) }
+    ensures { Readings.Tells text.now (Leaving.ClassLeft text.now table.old shapes.old table.new shapes.new classes k total) result (Readings.read_at (ModelText.read_class classes k (Leaving.between table.old total)) text.now at) }
 {
     let (_, at) = key_lines::number_line(text, at, b"class=", k, k)?;
     let (attrs, at) = key_lines::number_line(text, at, b"attrs=", 0, bounds::MOST_ATTRIBUTES)?;
@@ -55,21 +57,27 @@ pub fn class(
         attrs,
         run,
     };
-    let read = all_methods(text, rows, at, head, count, total)?;
-    table::put(&mut rows.table, k as usize, Row(attrs, given, run, count));
+    let read = all_methods(text, table, shapes, at, head, count, total)?;
+    table::put(table, k as usize, Row(attrs, given, run, count));
     Ok(read)
 }
 
 // So many classes.
-pub fn all_classes(text: &[u8], rows: &mut Rows, at: At, count: u32) -> Result<(u32, At), Failed>
+pub fn all_classes(
+    text: &[u8],
+    table: &mut [u16; table::SIZE],
+    shapes: &mut [u8; table::LINES],
+    at: At,
+    count: u32,
+) -> Result<(u32, At), Failed>
     requires placed { Readings.Placed text.now at }
     requires count_bound { count ≤ 16 }
-    ensures { Readings.Tells text.now (Leaving.ClassesLeft text.now rows.old.table rows.old.shapes rows.new.table rows.new.shapes count count) result (Readings.read_at (InOrder.each count 0 (Leaving.between rows.old.table 0) (ModelText.read_class count)) text.now at) }
+    ensures { Readings.Tells text.now (Leaving.ClassesLeft text.now table.old shapes.old table.new shapes.new count count) result (Readings.read_at (InOrder.each count 0 (Leaving.between table.old 0) (ModelText.read_class count)) text.now at) }
 {
     let mut here = at;
     let mut all = 0;
     for k in 0..count {
-        (all, here) = class(text, rows, here, count, k, all)?;
+        (all, here) = class(text, table, shapes, here, count, k, all)?;
     }
     Ok((all, here))
 }

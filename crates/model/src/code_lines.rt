@@ -9,7 +9,7 @@ ghost use Rattle.model.specs.Vocabulary.Creations as Creations;
 ghost use Rattle.model.specs.Vocabulary.Leaving as Leaving;
 ghost use Rattle.model.specs.Vocabulary.Standing as Standing;
 
-use crate::{MethodHead, Row, Rows, Stated, bounds, table};
+use crate::{MethodHead, Row, Stated, bounds, table};
 use code::{Shape, blocks, creating, statements};
 use layout::{Label, ObjectNumber};
 use terms::{Around, Here, Limits};
@@ -95,7 +95,8 @@ fn code_value(value: &[u8], method: MethodHead, last: bool, blocks: u32) -> Resu
 #[tactic(auto, using(text::proofs::KeyLines::value_failed), unfolding(crate::specs::ModelText::code_line, text::specs::Lines::plain_byte, text::specs::Lines::plain_bytes, text::specs::Vocabulary::Readings::Tells))]
 pub fn code_line(
     text: &[u8],
-    rows: &mut Rows,
+    table: &mut [u16; table::SIZE],
+    shapes: &mut [u8; table::LINES],
     at: At,
     method: MethodHead,
     i: u32,
@@ -104,7 +105,7 @@ pub fn code_line(
     requires placed { Readings.Placed text.now at }
     requires line_bound { method.first + i < 512 }
     requires blocks_bound { blocks < 65536 }
-    ensures { (total : ℕ) (bs : List Block) → blocks ≡ packed_blocks bs → Readings.Tells text.now (Leaving.LineLeft text.now rows.old.table rows.old.shapes rows.new.table rows.new.shapes method i total) result (Readings.read_at (ModelText.code_line (Standing.limits_of method) method.classes method.count i (Leaving.so_far rows.old.table (method.first + i) total bs)) text.now at) }
+    ensures { (total : ℕ) (bs : List Block) → blocks ≡ packed_blocks bs → Readings.Tells text.now (Leaving.LineLeft text.now table.old shapes.old table.new shapes.new method i total) result (Readings.read_at (ModelText.code_line (Standing.limits_of method) method.classes method.count i (Leaving.so_far table.old (method.first + i) total bs)) text.now at) }
 {
     let failed = |refusal| Failed { refusal, at };
     let (place, end) = key_lines::key_line(text, at.place, b"code=").map_err(failed)?;
@@ -117,8 +118,8 @@ pub fn code_line(
         at.line,
         u32::from(stated.new),
     );
-    table::put(&mut rows.table, table::FIRST_CODE + line, row);
-    rows.shapes[line] = stated.shape;
+    table::put(table, table::FIRST_CODE + line, row);
+    shapes[line] = stated.shape;
     let next = At {
         place: end + 1,
         line: at.line + 1,

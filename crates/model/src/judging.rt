@@ -21,16 +21,20 @@ const LONGEST_TEXT: usize = 32768;
 
 // The first two lines, "`creol=1`, `classes=` 1..16", and then the classes.
 #[tactic(auto, using(crate::proofs::Passing::most, crate::proofs::Passing::next_placed), unfolding(text::specs::Lines::plain_byte, text::specs::Lines::plain_bytes))]
-fn model(text: &[u8], rows: &mut Rows) -> Result<(u32, At), Failed>
+fn model(
+    text: &[u8],
+    table: &mut [u16; table::SIZE],
+    shapes: &mut [u8; table::LINES],
+) -> Result<(u32, At), Failed>
     requires text_len_bound { length text.now ≤ Lines.longest_text }
-    ensures told { Readings.Tells text.now (Leaving.ModelLeft text.now rows.old.table rows.old.shapes rows.new.table rows.new.shapes) result (Readings.read_at ModelText.read_model text.now Readings.begin) }
-    ensures sized { OnOk result (Table.Sized rows.new.table rows.new.shapes) }
+    ensures told { Readings.Tells text.now (Leaving.ModelLeft text.now table.old shapes.old table.new shapes.new) result (Readings.read_at ModelText.read_model text.now Readings.begin) }
+    ensures sized { OnOk result (Table.Sized table.new shapes.new) }
 {
     let at = At { place: 0, line: 1 };
     let (_, at) = key_lines::number_line(text, at, b"creol=", bounds::EDITION, bounds::EDITION)?;
     let (count, at) = key_lines::number_line(text, at, b"classes=", 1, bounds::MOST_CLASSES)?;
-    let read = classes::all_classes(text, rows, at, count)?;
-    table::put(&mut rows.table, table::MODEL, Row(count, 0, 0, 0));
+    let read = classes::all_classes(text, table, shapes, at, count)?;
+    table::put(table, table::MODEL, Row(count, 0, 0, 0));
     Ok(read)
 }
 
@@ -50,17 +54,21 @@ fn ended(text: &[u8], table: &[u16; table::SIZE], at: At, total: u32) -> Result<
 
 // The verdict on a text, with the table and the shapes that belong to it where it is accepted.
 #[tactic(auto, using(crate::proofs::Verdicts::end_failed, crate::proofs::Verdicts::judged_long, crate::proofs::Verdicts::judged_short, crate::proofs::Verdicts::told_refusal, text::proofs::Onward::told_failed), unfolding(whole::specs::Vocabulary::Refusing::number_of))]
-pub fn read(text: &[u8], rows: &mut Rows) -> Result<(), Verdict>
+pub fn read(
+    text: &[u8],
+    table: &mut [u16; table::SIZE],
+    shapes: &mut [u8; table::LINES],
+) -> Result<(), Verdict>
     ensures value { result ≡ Judging.accepted_or (Judge.judged text.now) }
-    ensures belongs { (m : Model) → Judge.judged text.now ≡ Judge.model m → Belonging.Belongs text.now rows.new.table m × Belonging.Shaped rows.new.table rows.new.shapes m }
-    ensures sized { OnOk result (Table.Sized rows.new.table rows.new.shapes) }
+    ensures belongs { (m : Model) → Judge.judged text.now ≡ Judge.model m → Belonging.Belongs text.now table.new m × Belonging.Shaped table.new shapes.new m }
+    ensures sized { OnOk result (Table.Sized table.new shapes.new) }
 {
     if text.len() > LONGEST_TEXT {
         return Err(Verdict::from(Refusal::TextTooLong));
     }
     let refused = |failed: Failed| key_lines::fault(text, failed.refusal.number(), failed.at);
-    let (total, at) = model(text, rows).map_err(refused)?;
-    ended(text, &rows.table, at, total)
+    let (total, at) = model(text, table, shapes).map_err(refused)?;
+    ended(text, table, at, total)
 }
 
 // The verdict on a text: number and line.
@@ -69,7 +77,7 @@ pub fn judge(text: &[u8]) -> Verdict
     ensures { result ≡ Judge.judge text.now }
 {
     let mut rows = Rows::new();
-    match read(text, &mut rows) {
+    match read(text, &mut rows.table, &mut rows.shapes) {
         Ok(()) => text::ACCEPTED,
         Err(verdict) => verdict,
     }

@@ -83,7 +83,7 @@ fn ready(program: &Program<'_>, cells: &[i32], here: Here) -> Option<i32>
     let Some(at) = lookup::standing_of(&program.table(), cells, here.label) else {
         return Some(1);
     };
-    match lines::statement(program.text, &program.rows.table, cells, here, at) {
+    match lines::statement(program.text, program.table, cells, here, at) {
         Err(_) => Some(1),
         Ok((statement, _)) => ready_at(statement),
     }

@@ -82,22 +82,15 @@ pub fn exec(program: &Program<'_>, cells: &mut [i32], o: ObjectNumber) -> Result
     let running = layout::of_object(cells, o, layout::RUNNING_LABEL);
     let label = layout::label_of(cells, running).ok_or(Refusal::ObjectIdle)?;
     let table = program.table();
+    let shapes = program.shapes;
     let at = lookup::standing_of(&table, cells, label).ok_or(Refusal::PastTheEnd)?;
     let here = Here { object: o, label };
     let (statement, arguments) = lines::statement(
         program.text,
-        &program.rows.table,
+        program.table,
         cells,
         here,
         at,
     ).map_err(|_| Refusal::PastTheEnd)?;
-    performed(
-        &table,
-        &program.rows.shapes,
-        cells,
-        here,
-        at,
-        statement,
-        arguments,
-    )
+    performed(&table, shapes, cells, here, at, statement, arguments)
 }

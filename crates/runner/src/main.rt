@@ -62,7 +62,7 @@ fn session(text: &[u8], input: &[u8], out: &mut [u8]) -> usize
 {
     let mut rows = Rows::new();
     let mut cells = [0; layout::ALL_CELLS];
-    match entries::start_in(text, &mut rows, &mut cells) {
+    match entries::start_program(text, &mut rows.table, &mut rows.shapes, &mut cells) {
         Err(verdict) => reports::refusal(verdict, out),
         Ok(program) => {
             let mut answers = [0; MOST_CHOICES];

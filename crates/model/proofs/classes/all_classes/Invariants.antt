@@ -6,5 +6,5 @@ use Rattle.model.proofs.classes.all_classes.Given as goal
 
 abbrev pub invariant-loop-k : goal.invariant-loop-k
 invariant-loop-k l =
-    Passed l.text (read_class l.count) l.count (between l.initial.rows.table 0) l.initial.here l.here l.k (between l.rows.table l.all)
-    (λ m. ClassesLeft l.text l.initial.rows.table l.initial.rows.shapes l.rows.table l.rows.shapes l.count l.k (m, between l.rows.table l.all) l.all)
+    Passed l.text (read_class l.count) l.count (between l.initial.table 0) l.initial.here l.here l.k (between l.table l.all)
+    (λ m. ClassesLeft l.text l.initial.table l.initial.shapes l.table l.shapes l.count l.k (m, between l.table l.all) l.all)

@@ -6,5 +6,5 @@ use Rattle.model.proofs.classes.all_methods.Given as goal
 
 abbrev pub invariant-loop-j : goal.invariant-loop-j
 invariant-loop-j l =
-    Passed l.text (read_method l.class.classes l.class.attrs l.class.run) l.count (between l.initial.rows.table l.total) l.initial.here l.here l.j (between l.rows.table l.all)
-    (λ os. MethodsLeft l.text l.initial.rows.table l.initial.rows.shapes l.rows.table l.rows.shapes l.class l.j l.total (os, between l.rows.table l.all) l.all)
+    Passed l.text (read_method l.class.classes l.class.attrs l.class.run) l.count (between l.initial.table l.total) l.initial.here l.here l.j (between l.table l.all)
+    (λ os. MethodsLeft l.text l.initial.table l.initial.shapes l.table l.shapes l.class l.j l.total (os, between l.table l.all) l.all)

@@ -77,12 +77,12 @@ returns c total bs e =
     let p = (goal.at.returns c).In_ok-place in
     let key = c.key_line.ensures in
     let h = stands p in
-    let sized : Sized a.rows.now.table a.rows.now.shapes = (search rules, search rules) in
+    let sized : Sized a.table.now a.shapes.now = (search rules, search rules) in
     let is = subst (CodeSaid _ _ _ bs) (kept _ _ _ c.map_err-2.ensures.cases _ c.in_ok-stated.was) (c.code_value.ensures bs e) in
     let room : a.method.first + a.i < 512 = omega arith in
     let to : c.in_ok-place.end ≤ length a.text.now = omega arith in (
       _,
-      value_read _ _ a.at _ code_plain _ key _ _ (found p) _ (line_taken a.text.now a.rows.now.table a.rows.now.shapes sized a.method a.i total a.at.line _ _ bs _ room h.1 to is),
+      value_read _ _ a.at _ code_plain _ key _ _ (found p) _ (line_taken a.text.now a.table.now a.shapes.now sized a.method a.i total a.at.line _ _ bs _ room h.1 to is),
       value_placed _ _ a.at (λ _ v. right v) code_plain _ key _ _ (found p) c.requires.placed,
-      line_left a.text.now a.rows.now.table a.rows.now.shapes sized a.method a.i total a.at.line _ _ bs _ room h.1 to is _ (rw c.from.ensures at c.put.ensures),
+      line_left a.text.now a.table.now a.shapes.now sized a.method a.i total a.at.line _ _ bs _ room h.1 to is _ (rw c.from.ensures at c.put.ensures),
     )

@@ -30,20 +30,21 @@ ended-requires-clause-total_bound c = (told_got _ _ _ _ c.model.ensures.told _ _
 
 -- both clauses at once
 both : (c : goal.After-ended) → (c.ended.result ≡ accepted_or (judged c.args.text.now))
-    × ((m : Model) → judged c.args.text.now ≡ model m → Belongs c.args.text.now c.model.new.rows.table m × Shaped c.model.new.rows.table c.model.new.rows.shapes m)
+    × ((m : Model) → judged c.args.text.now ≡ model m → Belongs c.args.text.now c.model.new.table m × Shaped c.model.new.table c.model.new.shapes m)
 both c =
     let s = c.args.text.now in
     let q = c.in_ok-total.at in
-    let u = c.model.new.rows in
+    let t = c.model.new.table in
+    let x = c.model.new.shapes in
     let was : c.model.result ≡ Ok (c.in_ok-total.total, q) = kept _ _ _ c.map_err.ensures.cases _ c.in_ok-total.was in
     let g = told_got _ _ _ _ c.model.ensures.told _ q was in
     let m = g.0.0 in
     let l = g.3 in
-    told_end s u.table u.shapes _ l.most m l.told.2 _ _ _ _
+    told_end s t x _ l.most m l.told.2 _ _ _ _
     (judged_short s c.if-text-gt-LONGEST_TEXT.false ∙ ap end_judged g.1 ∙ ap (λ so. end_judged (after (m, so) q.line (lines (drop q.place s)))) l.so)
     (c.ended.ensures m (all_given s _ _ _ l.most m l.told.2) (sym l.told.0))
     l.told.0
-    (IfOk-at_ok (λ _. Sized u.table u.shapes) was c.model.ensures.sized).1
+    (IfOk-at_ok (λ _. Sized t x) was c.model.ensures.sized).1
 
 pub returns-clause-value : goal.returns-clause-value
 returns-clause-value c = (both c).0
