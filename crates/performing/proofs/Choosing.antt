@@ -7,7 +7,8 @@ use native.Mathlib.Omega.{arith}
 use lib.IntN.{ℤ, pos}
 use lib.Signed.{mag}
 use mir.Syntax.{w32}
-use mir.Val.{to_z, of_z}
+use mir.Val.{SFits, to_z, of_z}
+use mir.ValLaws.{to_z_pos, to_z-of_z}
 use Rattle.whole.specs.Whole.{Worked, natural, between, is_true, eq_z}
 use Rattle.whole.specs.Refusals.{not_in_use, no_such_method, not_ready}
 use Rattle.whole.specs.declared.refusals.Refusal.{Refusal}
@@ -43,6 +44,7 @@ use Rattle.rules.specs.Messages as Messages
 use Rattle.rules.specs.Messages.{ready_at, ready, start_in, start, started}
 use Rattle.rules.specs.Next.{Next, refused, moved, must, working}
 use Rattle.rules.specs.Step.{ruled, next}
+use Rattle.rules.proofs.OneChoice.{number_of_kind}
 use Rattle.lookup.specs.declared.Body.{Body}
 use Rattle.lookup.specs.declared.Standing as Placed
 use Rattle.lookup.specs.Vocabulary.Programs as Kept
@@ -124,23 +126,24 @@ module _ (t : Table) (m : Model) (c : Cells) (l : ℕ) (is : in_stage c l queued
   unfolding Messages.bind must BodySaid
   bound_some d e = let f : BodyIs t m (body_of m c l) d = subst (BodySaid t m (body_of m c l)) e said in rw (is, f.is, Messages.bind, must)
 
--- a start of a bound call, by the number of its callee: a busy callee refuses, and in an idle one the guard decides
-module _ (m : Model) (c : Cells) (l o : ℕ) (is : in_stage c l bound ≡ true) (callee_is : natural (of_call c l callee) ≡ Some o) (z : ℤ) (told : z ≡ of_object c o running_label) where
-  started_in : start m c l ≡ start_in m c o l
-  unfolding start
-  started_in = ap (λ n. start_in m c n l) (nat_of (of_natural _ _ callee_is))
+-- a start by the number of its callee
+pub started_in : (m : Model) (c : Cells) (l o : ℕ) → natural (of_call c l callee) ≡ Some o → start m c l ≡ start_in m c o l
+unfolding start
+started_in m c l o e = ap (λ n. start_in m c n l) (nat_of (of_natural _ _ e))
 
+-- a start of a bound call: a busy callee refuses, and in an idle one the guard decides
+module _ (m : Model) (c : Cells) (l o : ℕ) (is : in_stage c l bound ≡ true) (callee_is : natural (of_call c l callee) ≡ Some o) (z : ℤ) (told : z ≡ of_object c o running_label) where
   pub start_busy : eq_z z (pos 0) ≡ false → Done c (start m c l) (Err Refusal.ObjectBusy) c
   unfolding start_in number_of
   start_busy busy =
-      same_done c _ _ _ c started_in
+      same_done c _ _ _ c (started_in m c l o callee_is)
       (must_passed c _ _ _ c _ is (must_failed c _ _ Refusal.ObjectBusy (ap (λ y. eq_z y (pos 0)) (sym told) ∙ busy)))
 
   pub start_idle : eq_z z (pos 0) ≡ true → (r : Answer) (d : Cells)
       → Done c (working (ready m c o l) (λ y. must (is_true y) not_ready (moved (started c o l)))) r d → Done c (start m c l) r d
   unfolding start_in
   start_idle idle r d h =
-      same_done c _ _ r d started_in (must_passed c _ _ _ d r is (must_passed c _ _ _ d r (ap (λ y. eq_z y (pos 0)) (sym told) ∙ idle) h))
+      same_done c _ _ r d (started_in m c l o callee_is) (must_passed c _ _ _ d r is (must_passed c _ _ _ d r (ap (λ y. eq_z y (pos 0)) (sym told) ∙ idle) h))
 
 -- the callee that was found
 pub callee_found : (c : Cells) (l : ℕ) (z : ℤ) → mag z < 2147483648 → z ≡ of_call c l callee → between (pos 1) (read c objects) (of_call c l callee) ≡ true
@@ -171,6 +174,10 @@ pub label_within : (c : Cells) (z : ℤ) (l : ℕ) → label_of c z ≡ Some l �
 unfolding label_of
 label_within c z l e = let n = up_to_number (rows_in_use c) z l e in (omega (arith, n.0.least, n.1), omega (arith, n.0.most, n.1))
 
+-- a signed number by its bits
+pub kind_is : (z : ℤ) (n : ℕ) → SFits w32 z → n < 2 ^ 31 → of_z w32 z ≡ n → z ≡ pos n
+kind_is z n h k e = sym (to_z-of_z w32 z h) ∙ ap (to_z w32) e ∙ to_z_pos w32 n (omega arith)
+
 -- a choice by its kind and what its number names
 module _ (m : Model) (c : Cells) (choice : Choice) where
   pub no_kind : kind_of choice.kind ≡ None → next m c choice ≡ refused not_in_use
@@ -195,44 +202,67 @@ module _ (m : Model) (c : Cells) (choice : Choice) where
     unfolding next label_of
     label_some l f = rw (e, labelled, f, next)
 
--- a choice as the code tests it: its kind, and what was found of its number
+-- every kind but exec goes by label
+pub by_label : (c : Cells) (k : Kind) → (k ≡ Kind.Exec → ⊥) → Kinds.in_use c k ≡ rows_in_use c
+unfolding Kinds.in_use
+by_label c Kind.Exec n = absurd (n refl)
+by_label c Kind.Arrive n = refl
+by_label c Kind.Bind n = refl
+by_label c Kind.Start n = refl
+by_label c Kind.Deliver n = refl
+
+-- the kind of a choice, as the code tests it: whether it is exec's, and which it is
+module _ (choice : Choice) (small-kind : mag choice.kind < 2147483648) where
+  module _ (n : ℤ) (named : n ≡ pos (Kinds.kind_number Kind.Exec)) where
+    pub exec_named : of_z w32 choice.kind ≡ of_z w32 n → kind_of choice.kind ≡ Some Kind.Exec
+    unfolding Kinds.kind_number kind_of
+    exec_named e = ap kind_of (sym (handed choice.kind _ small-kind refl) ∙ ap (to_z w32) (e ∙ ap (of_z w32) named))
+
+    pub not_exec : (of_z w32 choice.kind ≡ of_z w32 n → ⊥) → kind_of choice.kind ≡ Some Kind.Exec → ⊥
+    not_exec other e = other (ap (of_z w32) (number_of_kind choice.kind Kind.Exec e ∙ sym named))
+
+  pub its_kind : (k j : Kind) → Ok j ≡ ok_or (kind_of (to_z w32 (of_z w32 choice.kind))) NotInUse → j ≡ k → kind_of choice.kind ≡ Some k
+  its_kind k j named is = there _ NotInUse j (rw (handed choice.kind _ small-kind refl) at named) ∙ ap Some is
+
+-- a choice as the code tests it, and what was found of its number
 module _ (m : Model) (c : Cells) (choice : Choice) (small-kind : mag choice.kind < 2147483648) (small-number : mag choice.number < 2147483648) where
+  -- of exec
+  module _ (exec : kind_of choice.kind ≡ Some Kind.Exec) (found : Option ObjectNumber) (told : found ≡ as_object (object_of c (to_z w32 (of_z w32 choice.number)))) where
+    object_told : found ≡ as_object (object_of c choice.number)
+    object_told = told ∙ ap (λ z. as_object (object_of c z)) (handed choice.number _ small-number refl)
+
+    pub no_object : (y : Refusal) (r : Answer) → Err y ≡ ok_or found NotInUse → IsErrAnd r (λ q. q ≡ y) → Done c (next m c choice) r c
+    unfolding number_of
+    no_object y r e exit = not_found found NotInUse c _ y r e exit (λ none. exec_none m c choice exec (object_none _ (sym object_told ∙ none)))
+
+    pub at_object : (o : ObjectNumber) → Ok o ≡ ok_or found NotInUse → (r : Answer) (d : Cells) → Done c (Exec.exec m c o.0) r d → Done c (next m c choice) r d
+    at_object o e r d h = same_done c _ _ r d (exec_some m c choice exec o.0 (object_some _ o (sym object_told ∙ there found NotInUse o e))) h
+
+  -- of any other kind, or of none
+  module _ (found : Option Label) (told : found ≡ as_label (label_of c (to_z w32 (of_z w32 choice.number)))) where
+    label_told : found ≡ as_label (label_of c choice.number)
+    label_told = told ∙ ap (λ z. as_label (label_of c z)) (handed choice.number _ small-number refl)
+
+    unlabelled : (kind_of choice.kind ≡ Some Kind.Exec → ⊥) → label_of c choice.number ≡ None → next m c choice ≡ refused not_in_use
+    unlabelled other none = go (kind_of choice.kind) refl
+      where
+        go : (k : Option Kind) → kind_of choice.kind ≡ k → next m c choice ≡ refused not_in_use
+        go None e = no_kind m c choice e
+        go (Some k) e = label_none m c choice k e (by_label c k (λ f. other (e ∙ ap Some f))) none
+
+    pub no_label : (kind_of choice.kind ≡ Some Kind.Exec → ⊥) → (y : Refusal) (r : Answer) → Err y ≡ ok_or found NotInUse → IsErrAnd r (λ q. q ≡ y) → Done c (next m c choice) r c
+    unfolding number_of
+    no_label other y r e exit = not_found found NotInUse c _ y r e exit (λ none. unlabelled other (Numbers.label_none _ (sym label_told ∙ none)))
+
+    module _ (k j : Kind) (named : Ok j ≡ ok_or (kind_of (to_z w32 (of_z w32 choice.kind))) NotInUse) (is : j ≡ k) (labelled : Kinds.in_use c k ≡ rows_in_use c) where
+      pub at_label : (l : Label) → Ok l ≡ ok_or found NotInUse → (r : Answer) (d : Cells) → Done c (ruled m c k l.0) r d → Done c (next m c choice) r d
+      at_label l e r d h =
+          same_done c _ _ r d (label_some m c choice k (its_kind choice small-kind k j named is) labelled l.0 (Numbers.label_some _ l (sym label_told ∙ there found NotInUse l e))) h
+
   pub kindless : (y : Refusal) (r : Answer) → Err y ≡ ok_or (kind_of (to_z w32 (of_z w32 choice.kind))) NotInUse → IsErrAnd r (λ q. q ≡ y)
       → Done c (next m c choice) r c
   unfolding number_of
   kindless y r e exit = not_found _ NotInUse c _ y r (rw (handed choice.kind _ small-kind refl) at e) exit (no_kind m c choice)
-
-  module _ (k j : Kind) (named : Ok j ≡ ok_or (kind_of (to_z w32 (of_z w32 choice.kind))) NotInUse) (is : j ≡ k) where
-    kind_is : kind_of choice.kind ≡ Some k
-    kind_is = there _ NotInUse j (rw (handed choice.kind _ small-kind refl) at named) ∙ ap Some is
-
-    -- of exec
-    module _ (exec : k ≡ Kind.Exec) (found : Option ObjectNumber) (told : found ≡ as_object (object_of c (to_z w32 (of_z w32 choice.number)))) where
-      object_told : found ≡ as_object (object_of c choice.number)
-      object_told = told ∙ ap (λ z. as_object (object_of c z)) (handed choice.number _ small-number refl)
-
-      pub no_object : (y : Refusal) (r : Answer) → Err y ≡ ok_or found NotInUse → IsErrAnd r (λ q. q ≡ y) → Done c (next m c choice) r c
-      unfolding number_of
-      no_object y r e exit =
-          not_found found NotInUse c _ y r e exit (λ none. exec_none m c choice (kind_is ∙ ap Some exec) (object_none _ (sym object_told ∙ none)))
-
-      pub at_object : (o : ObjectNumber) → Ok o ≡ ok_or found NotInUse → (r : Answer) (d : Cells) → Done c (Exec.exec m c o.0) r d → Done c (next m c choice) r d
-      at_object o e r d h =
-          same_done c _ _ r d (exec_some m c choice (kind_is ∙ ap Some exec) o.0 (object_some _ o (sym object_told ∙ there found NotInUse o e))) h
-
-    -- of the other kinds
-    module _ (labelled : Kinds.in_use c k ≡ rows_in_use c) (found : Option Label) (told : found ≡ as_label (label_of c (to_z w32 (of_z w32 choice.number)))) where
-      label_told : found ≡ as_label (label_of c choice.number)
-      label_told = told ∙ ap (λ z. as_label (label_of c z)) (handed choice.number _ small-number refl)
-
-      pub no_label : (y : Refusal) (r : Answer) → Err y ≡ ok_or found NotInUse → IsErrAnd r (λ q. q ≡ y) → Done c (next m c choice) r c
-      unfolding number_of
-      no_label y r e exit =
-          not_found found NotInUse c _ y r e exit (λ none. label_none m c choice k kind_is labelled (Numbers.label_none _ (sym label_told ∙ none)))
-
-      pub at_label : (l : Label) → Ok l ≡ ok_or found NotInUse → (r : Answer) (d : Cells) → Done c (ruled m c k l.0) r d → Done c (next m c choice) r d
-      at_label l e r d h =
-          same_done c _ _ r d (label_some m c choice k kind_is labelled l.0 (Numbers.label_some _ l (sym label_told ∙ there found NotInUse l e))) h
 
 -- a label that was found is in use
 pub label_used : (c : Cells) (z : ℤ) (found : Option Label) (l : Label) → found ≡ as_label (label_of c z) → Ok l ≡ ok_or found NotInUse → InUse c l.0

@@ -21,27 +21,18 @@ pub fn next(program: &Program<'_>, cells: &mut [i32], choice: Choice) -> Result<
     requires configuration { is_configuration (Known.model_of program.now.text) cells.old ≡ true }
     ensures { Done cells.old (Step.next (Known.model_of program.now.text) cells.old choice) result cells.new }
 {
-    // What the number names is looked up in each arm: both lookups before the `match` took 1.2 times the instructions in a run of a short text.
+    if choice.kind == i32::from(Kind::Exec) {
+        let object = layout::object_of(cells, choice.number).ok_or(Refusal::NotInUse)?;
+        return statements::exec(program, cells, object);
+    }
+    // The label is looked up before the kinds are told apart: with a way for each kind before it a run of mixed choices, most of them not in use, took
+    // twice the time.
+    let label = layout::label_of(cells, choice.number).ok_or(Refusal::NotInUse)?;
     match Kind::try_from(choice.kind)? {
-        Kind::Exec => {
-            let object = layout::object_of(cells, choice.number).ok_or(Refusal::NotInUse)?;
-            statements::exec(program, cells, object)
-        }
-        Kind::Arrive => {
-            let label = layout::label_of(cells, choice.number).ok_or(Refusal::NotInUse)?;
-            messages::arrive(cells, label)
-        }
-        Kind::Bind => {
-            let label = layout::label_of(cells, choice.number).ok_or(Refusal::NotInUse)?;
-            messages::bind(&program.table(), cells, label)
-        }
-        Kind::Start => {
-            let label = layout::label_of(cells, choice.number).ok_or(Refusal::NotInUse)?;
-            messages::start(program, cells, label)
-        }
-        Kind::Deliver => {
-            let label = layout::label_of(cells, choice.number).ok_or(Refusal::NotInUse)?;
-            messages::deliver(cells, label)
-        }
+        Kind::Arrive => messages::arrive(cells, label),
+        Kind::Bind => messages::bind(&program.table(), cells, label),
+        Kind::Start => messages::start(program, cells, label),
+        // exec has gone above
+        Kind::Exec | Kind::Deliver => messages::deliver(cells, label),
     }
 }

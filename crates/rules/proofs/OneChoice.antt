@@ -98,7 +98,7 @@ before_reply Kind.Start e = omega arith
 before_reply Kind.Deliver e = omega arith
 
 -- a kind by its number
-number_of_kind : (z : ℤ) (k : Kind) → kind_of z ≡ Some k → z ≡ pos (kind_number k)
+pub number_of_kind : (z : ℤ) (k : Kind) → kind_of z ≡ Some k → z ≡ pos (kind_number k)
 unfolding kind_of kind_number
 number_of_kind (pos zero) k e = absurd (no_some e)
 number_of_kind (pos (suc zero)) k e = let s : Kind.Exec ≡ k = cc in ap (λ k. pos (kind_number k)) s
