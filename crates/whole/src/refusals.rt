@@ -100,40 +100,40 @@ impl Refusal {
 }
 
 impl fmt::Display for Refusal {
+    ghost use Rattle.std.specs.Prelude.{Some};
+    ghost use Rattle.whole.specs.Vocabulary.Refusing.{words_of};
+
+    ghost output = { λ refusal. Some (words_of refusal) };
+
     fn fmt<W: fmt::Write>(&self, f: &mut fmt::Formatter<W>) -> fmt::Result {
-        match self {
-            Refusal::TextTooLong => write!(f, "text too long (line 0)"),
-            Refusal::BrokenLine => write!(f, "line too long, byte outside, or no LF"),
-            Refusal::WrongKey => write!(f, "wrong key, text ended early, lines left over"),
-            Refusal::WrongNumber => write!(
-                f,
-                "a number outside code: its form, its range, or the 512"
-            ),
-            Refusal::WrongCode => write!(
-                f,
-                "code value outside the grammar, its numbers and variables included"
-            ),
-            Refusal::WrongBlocks => write!(f, "blocks unmatched or too deep, last line"),
-            Refusal::CellsNotAll => write!(f, "cells not 2,370"),
-            Refusal::NoConfiguration => write!(f, "not a configuration of this model"),
-            Refusal::NotInUse => write!(f, "kind, or object or label not in use"),
-            Refusal::AnswersDiffer => write!(f, "answers length differs"),
-            Refusal::BudgetTooLarge => write!(f, "budget over 10,000"),
-            Refusal::NotInvoked => write!(f, "arrive: stage not 1"),
-            Refusal::NotQueued => write!(f, "bind: stage not 2"),
-            Refusal::NoSuchMethod => write!(f, "no such method"),
-            Refusal::NotBound => write!(f, "start: stage not 3"),
-            Refusal::ObjectBusy => write!(f, "object busy"),
-            Refusal::NotReady => write!(f, "not ready"),
-            Refusal::NotAnswered => write!(f, "deliver: stage not 5"),
-            Refusal::ObjectIdle => write!(f, "exec: object idle"),
-            Refusal::PastTheEnd => write!(f, "line past the method's end"),
-            Refusal::OutOfRange => write!(f, "a value out of range"),
-            Refusal::CalleeNoObject => write!(f, "callee is no object"),
-            Refusal::ObjectRowsFull => write!(f, "object rows full"),
-            Refusal::CallRowsFull => write!(f, "call rows full"),
-            Refusal::ReplyNotIn => write!(f, "reply not in"),
-        }
+        f.write_str(match self {
+            Refusal::TextTooLong => "text too long (line 0)",
+            Refusal::BrokenLine => "line too long, byte outside, or no LF",
+            Refusal::WrongKey => "wrong key, text ended early, lines left over",
+            Refusal::WrongNumber => "a number outside code: its form, its range, or the 512",
+            Refusal::WrongCode =>
+                "code value outside the grammar, its numbers and variables included",
+            Refusal::WrongBlocks => "blocks unmatched or too deep, last line",
+            Refusal::CellsNotAll => "cells not 2,370",
+            Refusal::NoConfiguration => "not a configuration of this model",
+            Refusal::NotInUse => "kind, or object or label not in use",
+            Refusal::AnswersDiffer => "answers length differs",
+            Refusal::BudgetTooLarge => "budget over 10,000",
+            Refusal::NotInvoked => "arrive: stage not 1",
+            Refusal::NotQueued => "bind: stage not 2",
+            Refusal::NoSuchMethod => "no such method",
+            Refusal::NotBound => "start: stage not 3",
+            Refusal::ObjectBusy => "object busy",
+            Refusal::NotReady => "not ready",
+            Refusal::NotAnswered => "deliver: stage not 5",
+            Refusal::ObjectIdle => "exec: object idle",
+            Refusal::PastTheEnd => "line past the method's end",
+            Refusal::OutOfRange => "a value out of range",
+            Refusal::CalleeNoObject => "callee is no object",
+            Refusal::ObjectRowsFull => "object rows full",
+            Refusal::CallRowsFull => "call rows full",
+            Refusal::ReplyNotIn => "reply not in",
+        })
     }
 }
 
