@@ -1,8 +1,10 @@
 -- What the lookups say of an object and of a bound call is what their tests ask. Assumes nothing.
 use Rattle.std.specs.Prelude.{None, Some, slice_get}
-use Prim.Native.Nat.{ℕ}
+use Prim.Native.Nat.{ℕ, ◌≤◌}
 use mathlib.Core.Bool.{Bool, false, ◌&&◌}
 use mathlib.Core.Path.{◌≡◌, refl, ap, ◌∙◌}
+use native.Mathlib.Omega.{arith}
+use lib.IntN.{ℤ}
 use Rattle.whole.specs.Whole.{natural}
 use Rattle.layout.specs.Layout.{Cells, most_attributes, most_locals, of_object, of_call, class, attribute, local}
 use Rattle.code.specs.Statements.{Code}
@@ -11,11 +13,20 @@ use Rattle.terms.specs.Bytes.{Text}
 use Rattle.model.specs.declared.Row.{Row}
 use Rattle.model.specs.Vocabulary.Belonging.{Belongs}
 use Rattle.model.specs.Vocabulary.Table.{Table, row_at, class_row}
+use Rattle.model.proofs.AcceptedAt.{class_accepted}
 use Rattle.model.proofs.Lookup.{class_at}
 use Rattle.cells.specs.Standing.{class_of, standing_of}
 use Rattle.cells.specs.Configuration.{zero_from, running_named, object_holds, line_holds, bound_holds}
 use Rattle.rules.specs.Exec.{class_runs}
 use Rattle.lookup.specs.Vocabulary.Found.{ClassSaid}
+use Rattle.lookup.specs.Vocabulary.Programs.{Told}
+
+-- a class that was found has few attributes
+module _ (t : Table) (told : Told t) (z : ℤ) (k : ℕ) (h : ClassSaid told.model z (Some k)) where
+  pub attributes_few : (row_at t (class_row k)).0 ≤ most_attributes
+  unfolding ClassSaid
+  attributes_few =
+      omega (arith, (class_at told.text t told.model told.rows k h.1 h.2).attrs, (class_accepted told.accepted k h.1 h.2).attrs)
 
 -- whether an object's class has run 1
 abbrev pub runs_of : Model → Cells → ℕ → Bool
@@ -36,6 +47,12 @@ module _ (m : Model) (c : Cells) (o : ℕ) where
   unfolding object_holds
   object_classless e = rw (e, object_holds) refl
 
+  pub object_by_class : (d : Class) (b : Bool) → class_of m c o ≡ Some d → b ≡ zero_from most_attributes d.attrs (λ i. of_object c o (attribute i)) && running_named m c o
+      → b ≡ object_holds m c o
+  unfolding object_holds
+  object_by_class d b e f = rw (e, object_holds) f
+
+  -- the same by the class's row
   pub object_classed : (s : Text) (t u : Table) (k : ℕ) (r : Row) (holds : Bool) → Belongs s u m → t ≡ u → ClassSaid m (of_object c o class) (Some k)
       → r ≡ row_at t (class_row k) → holds ≡ zero_from most_attributes r.0 (λ i. of_object c o (attribute i)) && running_named m c o
       → holds ≡ object_holds m c o

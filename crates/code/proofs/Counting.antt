@@ -18,31 +18,31 @@ falls n = refl
 
 -- the count after a line that leaves a block or not and enters one or not
 module _ (exits enters : Bool) (n : ℕ) where
-  counted_out : exits ≡ true → n ≡ 0 → counted_on exits enters n ≡ None
+  pub counted_out : exits ≡ true → n ≡ 0 → counted_on exits enters n ≡ None
   counted_out e z = rw (e, z) (go enters)
     where
       go : (b : Bool) → counted_on true b 0 ≡ None
       go true = unfold counted_on in refl
       go false = unfold counted_on in refl
 
-  counted_across : exits ≡ true → enters ≡ true → (n ≡ 0 → ⊥) → counted_on exits enters n ≡ Some n
+  pub counted_across : exits ≡ true → enters ≡ true → (n ≡ 0 → ⊥) → counted_on exits enters n ≡ Some n
   counted_across e f z = rw (e, f) (go n z)
     where
       go : (m : ℕ) → (m ≡ 0 → ⊥) → counted_on true true m ≡ Some m
       go zero z = absurd (z refl)
       go (suc m) z = unfold counted_on in ap Some (add-one m)
 
-  counted_down : exits ≡ true → enters ≡ false → (n ≡ 0 → ⊥) → counted_on exits enters n ≡ Some (n - 1)
+  pub counted_down : exits ≡ true → enters ≡ false → (n ≡ 0 → ⊥) → counted_on exits enters n ≡ Some (n - 1)
   counted_down e f z = rw (e, f) (go n z)
     where
       go : (m : ℕ) → (m ≡ 0 → ⊥) → counted_on true false m ≡ Some (m - 1)
       go zero z = absurd (z refl)
       go (suc m) z = let d : m ≡ suc m - 1 = omega arith in falls m ∙ ap Some d
 
-  counted_up : exits ≡ false → enters ≡ true → counted_on exits enters n ≡ Some (n + 1)
+  pub counted_up : exits ≡ false → enters ≡ true → counted_on exits enters n ≡ Some (n + 1)
   counted_up e f = rw (e, f) (unfold counted_on in refl)
 
-  counted_level : exits ≡ false → enters ≡ false → counted_on exits enters n ≡ Some n
+  pub counted_level : exits ≡ false → enters ≡ false → counted_on exits enters n ≡ Some n
   counted_level e f = rw (e, f) (unfold counted_on in refl)
 
 -- a line adds at most one

@@ -5,8 +5,11 @@ use mathlib.Core.List.{List, [], ◌∷◌, ◌++◌}
 use mathlib.Core.Path.{◌≡◌, refl, ap, ◌∙◌}
 use borrow.Author.Tests.{eq-eqb, ne_eqb}
 use Rattle.whole.specs.Whole.{Worked}
+use Rattle.terms.specs.declared.Limits.{Limits}
 use Rattle.terms.specs.Bytes.{Text, byte_at}
 use Rattle.terms.specs.Vocabulary.Answers.{surroundings}
+use Rattle.terms.specs.Expressions.{Reading}
+use Rattle.terms.specs.Guards.{GuardReading}
 use Rattle.terms.specs.Parsed.{Parsed, got, bad, mapped, repeated, joining}
 use Rattle.terms.specs.Values.{values, guard_values}
 use Rattle.terms.proofs.Following.{respects_joining, mapped_id, mapped_got, mapped_bad}
@@ -48,6 +51,12 @@ module _ (b : ℕ) where
   pub comma_none : (b ≡ 44 → ⊥) → Grammar.comma b ≡ None
   unfolding Grammar.comma
   comma_none n = rw (ne_eqb b 44 n, Grammar.comma)
+
+-- the number of classes does not bear on arguments
+pub any_classes : {A G : Type 0} (R : Reading A) (Q : GuardReading A G) (lim : Limits) (classes : ℕ) (s : Text) (more at : ℕ)
+    → Grammar.arguments R Q lim classes s more at ≡ Grammar.arguments R Q lim 0 s more at
+unfolding Grammar.arguments Grammar.listed Grammar.operand
+any_classes R Q lim classes s more at = refl
 
 -- a space and a list, by what the code finds
 module _ (r : Reader) (most at : ℕ) where

@@ -38,11 +38,11 @@ module _ (m : Model) (c : Cells) (choices : List Choice) where
   pub ran_none : is_configuration m c ≡ true → (b : List ℤ) → Ran m c choices choices c b 0
   ran_none h b = record { configuration = h; cells = refl; answers = refl }
 
-  -- one more, performed
-  pub ran_more : (choice : Choice) (left : List Choice) (d : Cells) (b : List ℤ) (i : ℕ) → Ran m c choices (choice ∷ left) d b i → i < length b
+  -- one more, performed, whose cells are a configuration
+  pub ran_on : (choice : Choice) (left : List Choice) (d : Cells) (b : List ℤ) (i : ℕ) → Ran m c choices (choice ∷ left) d b i → i < length b
       → (e : Cells) (a : List ℤ) → is_configuration m e ≡ true → (e ≡ cells_after d (next m d choice)) × (a ≡ set b i (pos (answer_of (next m d choice)))) → Ran m c choices left e a (i + 1)
   unfolding run_cells run_answers
-  ran_more choice left d b i r h e a kept (was, told) =
+  ran_on choice left d b i r h e a kept (was, told) =
       let n = next m d choice in
       record {
         configuration = kept;
@@ -52,6 +52,12 @@ module _ (m : Model) (c : Cells) (choices : List Choice) where
             ∙ append_assoc (take i b) (pos (answer_of n) ∷ []) _
             ∙ r.answers;
       }
+
+  -- one more, performed: of an accepted model its cells are a configuration
+  pub ran_more : AcceptedModel m → (choice : Choice) (left : List Choice) (d : Cells) (b : List ℤ) (i : ℕ) → Ran m c choices (choice ∷ left) d b i → i < length b
+      → (e : Cells) (a : List ℤ) → (e ≡ cells_after d (next m d choice)) × (a ≡ set b i (pos (answer_of (next m d choice)))) → Ran m c choices left e a (i + 1)
+  ran_more accepted choice left d b i r h e a both =
+      ran_on choice left d b i r h e a (ap (is_configuration m) both.0 ∙ after_keeps m accepted d r.configuration choice) both
 
   -- all of them: the cells, and the answers that are written
   pub ran_ended : (d : Cells) (b : List ℤ) (i : ℕ) → Ran m c choices [] d b i → (d ≡ run_cells m c choices) × (take i b ≡ run_answers m c choices)

@@ -2,7 +2,7 @@
 use Prim.Native.Nat.{ℕ, zero, suc, ◌+◌, ◌-◌, ◌≤◌, ◌<◌}
 use mathlib.Core.Bool.{Bool, true, false, false≢true}
 use mathlib.Core.List.{[], ◌∷◌}
-use mathlib.Core.Path.{◌≡◌, refl, sym, ap, ◌∙◌}
+use mathlib.Core.Path.{◌≡◌, refl, sym, ap, ap₂, ◌∙◌}
 use mathlib.Core.Logic.{◌≢◌}
 use native.Mathlib.Numerals.{add-one}
 use native.Mathlib.Omega.{arith}
@@ -47,6 +47,26 @@ module _ (c : Cells) (i : ℕ) where
   pub zeros_done : length c ≤ i → zeros (drop i c) ≡ true
   unfolding zeros
   zeros_done h = ap zeros (drop_of_length-le c h)
+
+-- cells from one on that is before the end: that one, and those behind it
+module _ (c : Cells) (i to : ℕ) where
+  opened : i < to → to ≤ length c → zeros_in c i to ≡ zeros (get_or c i (pos 0) ∷ take (to - suc i) (drop (suc i) c))
+  unfolding zeros_in
+  opened h k =
+      let n : to - i ≡ suc (to - suc i) = omega arith in
+      ap zeros (ap₂ take n (drop-cons c i (pos 0) (omega arith)))
+
+  pub zeros_in_more : i < to → to ≤ length c → eq_z (get_or c i (pos 0)) (pos 0) ≡ true → zeros_in c (i + 1) to ≡ zeros_in c i to
+  unfolding zeros_in
+  zeros_in_more h k e = ap (λ n. zeros_in c n to) (add-one i) ∙ sym (opened h k ∙ zeros_cons _ _ e)
+
+  pub zeros_in_stop : i < to → to ≤ length c → eq_z (get_or c i (pos 0)) (pos 0) ≡ false → zeros_in c i to ≡ false
+  zeros_in_stop h k e = opened h k ∙ zeros_not _ _ e
+
+  -- and from the end on there is none
+  pub zeros_in_done : to ≤ i → zeros_in c i to ≡ true
+  unfolding zeros_in zeros
+  zeros_in_done h = let n : to - i ≡ 0 = omega arith in ap (λ k. zeros (take k (drop i c))) n
 
 -- each of a list that is all 0, and a list each of which is 0
 zeros_each : (zs : Cells) → zeros zs ≡ true → (i : ℕ) → get_or zs i (pos 0) ≡ pos 0

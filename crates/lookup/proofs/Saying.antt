@@ -104,7 +104,16 @@ module _ (t : Table) (told : Told t) (k : ℕ) (h : k < classes_in t) where
       let i = item_at told.model k here in
       omega (arith, (class_at _ _ _ told.rows k i.0 i.1).methods, (class_at _ _ _ told.rows k i.0 i.1).few)
 
--- a class runs as the third number of its row says, and one that is not there does not
+-- a class runs as its own number says, and one that is not there does not
+pub runs_at : (m : Model) (k : ℕ) (c : Class) → slice_get m k ≡ Some c → eqb c.run 1 ≡ class_runs m k
+unfolding class_runs runs
+runs_at m k c e = rw (e, class_runs) refl
+
+pub runs_nowhere : (m : Model) (k : ℕ) → length m ≤ k → false ≡ class_runs m k
+unfolding class_runs
+runs_nowhere m k h = rw (item_past m k h, class_runs) refl
+
+-- the same by the third number of a class's row
 module _ (s : Text) (t u : Table) (m : Model) (k n : ℕ) where
   pub runs_told : (r : Row) → Belongs s u m → t ≡ u → n ≡ classes_in t → k < n → r ≡ row_at t (class_row k) → eqb r.2 1 ≡ class_runs m k
   unfolding class_runs runs

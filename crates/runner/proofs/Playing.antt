@@ -13,7 +13,7 @@ use Rattle.rules.specs.Kinds.{kinds}
 use Rattle.rules.specs.Next.{answer_of, cells_after}
 use Rattle.rules.specs.Step.{next}
 use Rattle.engine.specs.Run.{run_cells, run_answers}
-use Rattle.entries.proofs.RunOnward.{Ran, ran_none, ran_more, ran_ended}
+use Rattle.entries.proofs.RunOnward.{Ran, ran_none, ran_on, ran_ended}
 use Rattle.session.specs.Choices.{longest_input, choice_of, choices_from}
 use Rattle.transcript.specs.Vocabulary.Front.{at_front}
 use Rattle.transcript.specs.Vocabulary.InputLines.{line_length}
@@ -61,7 +61,7 @@ module _ (m : Model) (c : Cells) (input : Text) (old : List ℤ) (s : Text) wher
           read = p.read;
           room = long ∙ p.room;
           ran =
-              ran_more m c (choices_from input) choice _ d b count (subst (λ left. Ran m c (choices_from input) left d b count) cut p.ran)
+              ran_on m c (choices_from input) choice _ d b count (subst (λ left. Ran m c (choices_from input) left d b count) cut p.ran)
               (omega (arith, p.few, p.read, p.room))
               e a kept (moved, answered);
           behind = behind_stored _ _ _ count _ answered p.behind;

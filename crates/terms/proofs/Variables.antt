@@ -11,6 +11,7 @@ use Rattle.terms.specs.declared.Variable.TheVariants.{Attribute, Local}
 use Rattle.terms.specs.Bytes.{Text, byte_at, digit}
 use Rattle.terms.specs.Leaves.{numbered, variable}
 use Rattle.terms.specs.Parsed.{got, bad, mapped}
+use Rattle.terms.proofs.Bytes.{digit_is}
 use Rattle.terms.proofs.Moving.{Moves, same_place, no_got, moves_mapped}
 
 -- the digit of a letter: no variable at all; no digit; one outside its range; one within
@@ -43,6 +44,23 @@ numbered_moves limit s at p n e = go (ltb 0 limit) refl (digit (byte_at s (at + 
         test : (u : Bool) → ltb d limit ≡ u → at < p
         test true u =
             let l = same_place _ _ _ _ (sym (numbered_some limit s at (ltb-true _ _ t) d f (ltb-true _ _ u)) ∙ e) in
+            omega arith
+        test false u = absurd (no_got _ _ _ (sym (numbered_past limit s at (ltb-true _ _ t) d f (ltb-false _ _ u)) ∙ e))
+
+-- a variable has one digit
+pub numbered_digit : (limit : ℕ) (s : Text) (at p d : ℕ) → numbered limit s at ≡ got p d → d < 10
+numbered_digit limit s at p n e = go (ltb 0 limit) refl (digit (byte_at s (at + 1))) refl
+  where
+    go : (t : Bool) → ltb 0 limit ≡ t → (o : Option ℕ) → digit (byte_at s (at + 1)) ≡ o → n < 10
+    go false t o f = let z = ltb-false 0 limit t in absurd (no_got _ _ _ (sym (numbered_never limit s at (omega arith)) ∙ e))
+    go true t None f = absurd (no_got _ _ _ (sym (numbered_none limit s at (ltb-true _ _ t) f) ∙ e))
+    go true t (Some d) f = test (ltb d limit) refl
+      where
+        test : (u : Bool) → ltb d limit ≡ u → n < 10
+        test true u =
+            let g = sym (numbered_some limit s at (ltb-true _ _ t) d f (ltb-true _ _ u)) ∙ e in
+            let l : d ≡ n = cc in
+            let k = digit_is (byte_at s (at + 1)) d f in
             omega arith
         test false u = absurd (no_got _ _ _ (sym (numbered_past limit s at (ltb-true _ _ t) d f (ltb-false _ _ u)) ∙ e))
 

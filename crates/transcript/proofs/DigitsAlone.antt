@@ -1,6 +1,6 @@
 -- Digits alone, byte by byte as the code goes through them, and how large a number they write. Assumes nothing.
 use Rattle.std.specs.Prelude.{Option, None, Some}
-use Prim.Native.Nat.{ℕ, suc, ◌+◌, ◌*◌, ◌^◌, ◌≤◌, ◌<◌}
+use Prim.Native.Nat.{ℕ, zero, suc, ◌+◌, ◌-◌, ◌*◌, ◌^◌, ◌≤◌, ◌<◌}
 use mathlib.Core.Bool.{Bool, true, false}
 use mathlib.Core.List.{[], ◌∷◌}
 use mathlib.Core.Path.{◌≡◌, refl, sym, ap, subst, ◌∙◌}
@@ -9,11 +9,46 @@ use native.Mathlib.Numerals.{add-one}
 use native.Mathlib.Omega.{arith}
 use borrow.Author.Tests.{le-leb, lt-leb, leb-true, leb-false}
 use lib.Dec.{leb}
-use lib.ListN.{length, drop, drop_of_length-le}
+use lib.ListN.{length, take, drop, drop_of_length-le}
 use lib.Seq.{drop-cons}
 use Rattle.terms.specs.Bytes.{Text, byte_at, digit}
+use Rattle.terms.specs.Leaves.{decimal}
+use Rattle.terms.specs.Parsed.{got, bad}
 use Rattle.terms.proofs.Bytes.{digit_is}
+use Rattle.terms.proofs.Digits.{digits_none, decimal_none, decimal_zero, decimal_more}
+use Rattle.terms.proofs.Moving.{no_got, same_read}
 use Rattle.session.specs.Choices.{most_digits, digits_from, digits_alone}
+
+-- one byte that is a decimal is a digit, and one that is none is not
+module _ (b : ℕ) where
+  byte_none : digit b ≡ None → decimal 9 (b ∷ []) 0 ≡ bad 0
+  byte_none e = decimal_none 9 (b ∷ []) 0 e
+
+  byte_some : (d : ℕ) → digit b ≡ Some d → decimal 9 (b ∷ []) 0 ≡ got 1 d
+  byte_some zero e = decimal_zero 9 (b ∷ []) 0 e
+  byte_some (suc d) e =
+      let k = digit_is b (suc d) e in
+      decimal_more 9 (b ∷ []) 0 (suc d) e (omega arith) (λ z. omega arith) ∙ digits_none 9 (b ∷ []) 1 (suc d) (unfold digit in refl)
+
+  pub digit_got : (p d : ℕ) → decimal 9 (b ∷ []) 0 ≡ got p d → digit b ≡ Some d
+  digit_got p d e = go (digit b) refl
+    where
+      go : (o : Option ℕ) → digit b ≡ o → digit b ≡ Some d
+      go None f = absurd (no_got _ _ _ (sym (byte_none f) ∙ e))
+      go (Some k) f = f ∙ ap Some (same_read _ _ _ _ (sym (byte_some k f) ∙ e))
+
+  pub digit_bad : (p : ℕ) → decimal 9 (b ∷ []) 0 ≡ bad p → digit b ≡ None
+  digit_bad p e = go (digit b) refl
+    where
+      go : (o : Option ℕ) → digit b ≡ o → digit b ≡ None
+      go None f = f
+      go (Some k) f = absurd (no_got _ _ _ (sym e ∙ byte_some k f))
+
+-- the byte at a place, as a text of its own
+pub one_byte : (s : Text) (at : ℕ) → at < length s → take (at + 1 - at) (drop at s) ≡ byte_at s at ∷ []
+one_byte s at h =
+    let n : at + 1 - at ≡ 1 = omega arith in
+    ap (λ k. take k (drop at s)) n ∙ ap (take 1) (drop-cons s at 0 h)
 
 -- a digit more, and a byte that is none
 module _ (n b : ℕ) (s : Text) where

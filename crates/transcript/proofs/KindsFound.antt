@@ -60,3 +60,7 @@ name_plain Kind.Deliver = refl
 
 pub name_within : (k : Kind) (l : Text) (at : ℕ) → word (kind_name k) l 0 ≡ got at tt → at ≤ length l
 name_within k l at e = word_within (kind_name k) l 0 at (name_plain k) (omega arith) e
+
+-- what is none of the first four is the fifth
+pub fifth : (n : ℕ) → 1 ≤ n → n ≤ 5 → (n ≡ 1 → ⊥) → (n ≡ 2 → ⊥) → (n ≡ 3 → ⊥) → (n ≡ 4 → ⊥) → 5 ≡ n
+fifth n h k a b c d = omega arith

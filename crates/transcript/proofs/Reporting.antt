@@ -1,5 +1,5 @@
 -- The answers to choices, one by one as the code goes through them: their lines, and how many are acceptances. Assumes nothing.
-use Prim.Native.Nat.{ℕ, zero, suc, ◌+◌, ◌<◌}
+use Prim.Native.Nat.{ℕ, zero, suc, ◌+◌, ◌≤◌, ◌<◌}
 use mathlib.Core.Bool.{Bool, true, false, cond}
 use mathlib.Core.List.{List, [], ◌∷◌, ◌++◌, append_assoc, append-nil}
 use mathlib.Core.Path.{◌≡◌, refl, sym, ap, ◌∙◌}
@@ -9,7 +9,8 @@ use lib.IntN.{ℤ, pos}
 use lib.Signed.{mag}
 use mir.Syntax.{w32}
 use mir.Val.{to_z, of_z}
-use lib.ListN.{length, take, get_or}
+use lib.ListN.{length, take, drop, get_or, drop_of_length-le}
+use lib.Seq.{drop-cons}
 use Rattle.std.specs.List.{count_by}
 use Rattle.std.proofs.lemmas.List.Recursion.{is_count_by}
 use Rattle.whole.specs.Whole.{nat, eq_z}
@@ -91,3 +92,13 @@ lines_grown (z ∷ zs) (suc i) h =
 
 pub lines_more : (zs : List ℤ) (i : ℕ) → i < length zs → answer_lines (take i zs) ++ answer_line (get_or zs i (pos 0)) ≡ answer_lines (take (i + 1) zs)
 lines_more zs i h = lines_grown zs i h ∙ ap (λ n. answer_lines (take n zs)) (sym (add-one i))
+
+-- the lines of the answers from a place on, and behind the last
+module _ (zs : List ℤ) (i : ℕ) where
+  module _ (h : i < length zs) where
+    pub lines_onward : answer_lines (drop i zs) ≡ answer_line (get_or zs i (pos 0)) ++ answer_lines (drop (i + 1) zs)
+    lines_onward = rw (add-one i, drop-cons zs i (pos 0) h) (lines_first (get_or zs i (pos 0)) (drop (suc i) zs))
+
+  module _ (h : length zs ≤ i) where
+    pub lines_ended : answer_lines (drop i zs) ≡ []
+    lines_ended = ap answer_lines (drop_of_length-le zs h) ∙ lines_none

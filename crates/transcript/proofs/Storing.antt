@@ -1,12 +1,13 @@
 -- Items stored one after another: a run of stores behind another, and what is at the front. Assumes nothing.
-use Prim.Native.Nat.{ℕ, suc, ◌+◌, ◌-◌, ◌≤◌}
+use Prim.Native.Nat.{ℕ, suc, ◌+◌, ◌-◌, ◌≤◌, ◌<◌}
 use mathlib.Core.List.{List, [], ◌∷◌, ◌++◌, append_assoc}
 use mathlib.Core.Path.{◌≡◌, refl, sym, ap, ap₂, subst, ◌∙◌}
 use native.Mathlib.Nat.{zero-add}
+use native.Mathlib.Numerals.{add-one}
 use native.Mathlib.Omega.{arith}
-use lib.ListN.{length, take, drop, set, length-append, length-drop, take-append-drop}
+use lib.ListN.{length, take, drop, get_or, set, drop_of_length-le, length-append, length-drop, take-append-drop}
 use borrow.Rule.Slice.PartMut.{put_mid}
-use lib.Seq.{sets, sets-eq, drop-drop, drop-set-lt, take_at, length-take-le, take_all}
+use lib.Seq.{sets, sets-eq, set_split, drop-cons, drop-drop, drop_at, drop-set-lt, take_at, length-take-le, take_all}
 use Rattle.terms.specs.Bytes.{Text}
 use Rattle.session.specs.Shown.{shown_line}
 use Rattle.transcript.specs.Vocabulary.Front.{at_front, Adds}
@@ -43,9 +44,24 @@ module _ {A : Type 0} where
       let k : n ≡ length items = sym (length-take-le n new h) ∙ ap length front in
       (k, sym (take-append-drop n new) ∙ ap₂ ◌++◌ front (behind ∙ ap (λ n. drop n old) k))
 
+  -- the item at a place is stored before those behind it
+  pub sets_onward : (old items : List A) (d : A) (at i : ℕ) → suc i ≤ length items
+      → sets (set old (at + i) (get_or items i d)) (at + (i + 1)) (drop (i + 1) items) ≡ sets old (at + i) (drop i items)
+  sets_onward old items d at i h =
+      let n : at + suc i ≡ suc (at + i) = omega arith in
+      rw (add-one i, drop-cons items i d h) (ap (λ k. sets (set old (at + i) (get_or items i d)) k (drop (suc i) items)) n)
+
+  pub sets_ended : (old items : List A) (at i : ℕ) → length items ≤ i → sets old at (drop i items) ≡ old
+  sets_ended old items at i h = ap (sets old at) (drop_of_length-le items h)
+
   -- the rest of a list is all of it
   pub take_rest : (n : ℕ) (l : List A) → take (length l - n) (drop n l) ≡ drop n l
   take_rest n l = take_all (length l - n) (drop n l) (omega (arith, length-drop n l))
+
+  -- what was stored last stands before what was stored behind it
+  pub drop_stored : (old : List A) (i : ℕ) (a : A) → i < length old → drop i (set old i a) ≡ a ∷ drop (i + 1) old
+  drop_stored old i a h =
+      rw (add-one i) (ap (drop i) (set_split old i a h) ∙ drop_at (take i old) (a ∷ drop (suc i) old) i (length-take-le i old (omega arith)))
 
   -- a part of a list, copied over
   pub put_is : (old items new : List A) (at : ℕ) → new ≡ items → at + length items ≤ length old → put_mid at (at + length items - at) old new ≡ sets old at items

@@ -5,7 +5,7 @@ use Prim.Native.Nat.{ℕ, zero, suc, ◌+◌, ◌-◌, ◌*◌, ◌^◌, ◌≤�
 use mathlib.Core.Bool.{Bool, true, false, cond, false≢true}
 use mathlib.Core.Path.{◌≡◌, refl, sym, ap, ◌∙◌}
 use native.Mathlib.Omega.{arith}
-use borrow.Author.Tests.{ltb-true, lt-ltb, le-ltb, eqb-true, eqb-false, eq-eqb, ne_eqb}
+use borrow.Author.Tests.{ltb-true, ltb-false, lt-ltb, le-ltb, eqb-true, eqb-false, eq-eqb, ne_eqb}
 use lib.Dec.{ltb, eqb}
 use lib.IntN.{ℤ, pos, negsuc, neg_ℤ, sub_ℕ, ◌+ℤ◌, ◌-ℤ◌, ◌*ℤ◌}
 use lib.Signed.{mag, lt_z}
@@ -28,6 +28,10 @@ pub above_range : (z : ℤ) → lt_z (pos 2147483647) z ≡ true → None ≡ wi
 unfolding within in_range
 above_range (pos n) h = rw (le-ltb n 2147483648 (omega (arith, ltb-true 2147483647 n h)), within)
 above_range (negsuc n) h = absurd (false≢true h)
+
+pub in_range_lem : (z : ℤ) → lt_z z (negsuc 2147483647) ≡ false → lt_z (pos 2147483647) z ≡ false → mag z < 2147483648
+in_range_lem (pos n) h k = omega (arith, ltb-false 2147483647 n k)
+in_range_lem (negsuc n) h k = omega (arith, ltb-false 2147483647 n h)
 
 pub within_range : (z : ℤ) → mag z < 2147483648 → Some z ≡ within z
 unfolding within in_range
