@@ -19,6 +19,8 @@ ROOT = HERE.parent.parent
 # The crates whose definitions are tried, and the proof files that are tables of cases or serve them.
 TRIED = ("text", "model", "cells", "rules", "engine", "session")
 KEPT = ("Bounds", "Cases", "Open", "Orders", "Scene", "Session", "TextBounds")
+# An impl or a function, with its comments and attributes: what is proved of it rests on the definitions, and would refuse a wrong one by itself.
+CODE = re.compile(r"^(?:(?://|#\[).*\n)*(?:pub )?(?:impl|fn)\b.*(?:\{\}\n|\n(?:.*\n)*?\}\n)", flags=re.M)
 
 
 def blocks():
@@ -35,6 +37,7 @@ def blocks():
 def stripped(crate):
     """A crate with its types, the numbers in them, its definitions and its tables of cases alone."""
     library = crate / "src" / "lib.rt"
+    library.write_text(CODE.sub("", library.read_text(encoding="utf-8")), encoding="utf-8")
     for path in (crate / "src").glob("*.rt"):
         if path == library:
             continue
