@@ -11,6 +11,7 @@ use Rattle.layout.specs.Layout.{Cells}
 use Rattle.model.specs.Accepted.{AcceptedModel}
 use Rattle.model.specs.Model.{Model}
 use Rattle.cells.specs.Configuration.{is_configuration}
+use Rattle.cells.proofs.Configured.{configured}
 use Rattle.rules.specs.declared.Choice.{Choice}
 use Rattle.rules.specs.Next.{answer_of, cells_after}
 use Rattle.rules.specs.Step.{next}
@@ -49,10 +50,10 @@ module _ (m : Model) (c : Cells) (choices : List Choice) where
     Left left = Ran m c choices left d b i
 
     -- one turn more, after which the cells are a configuration
-    pub turned : i < length choices → (e : Cells) (a : List ℤ) → is_configuration m e ≡ true → length e ≡ length d → length a ≡ length b → Moved e
-        → Answered a → Reached m c choices e a (i + 1)
-    turned less e a kept f g moved answered = record {
-      same = f ∙ s.same;
+    pub turned : i < length choices → (e : Cells) (a : List ℤ) → is_configuration m e ≡ true → length a ≡ length b → Moved e → Answered a
+        → Reached m c choices e a (i + 1)
+    turned less e a kept g moved answered = record {
+      same = (configured m e kept).length ∙ sym (configured m d s.ran.configuration).length ∙ s.same;
       both = g ∙ s.both;
       ran = subst (λ k. Ran m c choices (drop k choices) e a (i + 1)) (sym (add-one i))
           (ran_on m c choices chosen _ _ _ _ (subst Left (drop-cons choices i none less) s.ran) (subst (i <◌) (sym s.both) less) e a kept (moved, answered));
@@ -62,7 +63,7 @@ module _ (m : Model) (c : Cells) (choices : List Choice) where
     pub onward : AcceptedModel m → i < length choices → (e : Cells) (a : List ℤ) → length e ≡ length d → length a ≡ length b → Moved e → Answered a
         → Reached m c choices e a (i + 1)
     onward accepted less e a f g moved answered =
-        turned less e a (ap (is_configuration m) moved ∙ after_keeps m accepted d s.ran.configuration chosen) f g moved answered
+        turned less e a (ap (is_configuration m) moved ∙ after_keeps m accepted d s.ran.configuration chosen) g moved answered
 
     -- when no choice is left, all are performed
     pub finished : length choices ≤ i → (d ≡ run_cells m c choices) × (b ≡ run_answers m c choices)

@@ -250,14 +250,22 @@ module _ (m : Model) (c : Cells) (choice : Choice) (small-kind : mag choice.kind
         go None e = no_kind m c choice e
         go (Some k) e = label_none m c choice k e (by_label c k (λ f. other (e ∙ ap Some f))) none
 
-    pub no_label : (kind_of choice.kind ≡ Some Kind.Exec → ⊥) → (y : Refusal) (r : Answer) → Err y ≡ ok_or found NotInUse → IsErrAnd r (λ q. q ≡ y) → Done c (next m c choice) r c
+    pub label_missed : (kind_of choice.kind ≡ Some Kind.Exec → ⊥) → (y : Refusal) (r : Answer) → Err y ≡ ok_or found NotInUse → IsErrAnd r (λ q. q ≡ y) → Done c (next m c choice) r c
     unfolding number_of
-    no_label other y r e exit = not_found found NotInUse c _ y r e exit (λ none. unlabelled other (Numbers.label_none _ (sym label_told ∙ none)))
+    label_missed other y r e exit = not_found found NotInUse c _ y r e exit (λ none. unlabelled other (Numbers.label_none _ (sym label_told ∙ none)))
 
     module _ (k j : Kind) (named : Ok j ≡ ok_or (kind_of (to_z w32 (of_z w32 choice.kind))) NotInUse) (is : j ≡ k) (labelled : Kinds.in_use c k ≡ rows_in_use c) where
       pub at_label : (l : Label) → Ok l ≡ ok_or found NotInUse → (r : Answer) (d : Cells) → Done c (ruled m c k l.0) r d → Done c (next m c choice) r d
       at_label l e r d h =
           same_done c _ _ r d (label_some m c choice k (its_kind choice small-kind k j named is) labelled l.0 (Numbers.label_some _ l (sym label_told ∙ there found NotInUse l e))) h
+
+  -- of a kind that was told first, and goes by label
+  module _ (k j : Kind) (named : Ok j ≡ ok_or (kind_of (to_z w32 (of_z w32 choice.kind))) NotInUse) (is : j ≡ k) (labelled : Kinds.in_use c k ≡ rows_in_use c) (found : Option Label) (told : found ≡ as_label (label_of c (to_z w32 (of_z w32 choice.number)))) where
+    pub no_label : (y : Refusal) (r : Answer) → Err y ≡ ok_or found NotInUse → IsErrAnd r (λ q. q ≡ y) → Done c (next m c choice) r c
+    unfolding number_of
+    no_label y r e exit =
+        not_found found NotInUse c _ y r e exit
+        (λ none. label_none m c choice k (its_kind choice small-kind k j named is) labelled (Numbers.label_none _ (sym (label_told found told) ∙ none)))
 
   pub kindless : (y : Refusal) (r : Answer) → Err y ≡ ok_or (kind_of (to_z w32 (of_z w32 choice.kind))) NotInUse → IsErrAnd r (λ q. q ≡ y)
       → Done c (next m c choice) r c

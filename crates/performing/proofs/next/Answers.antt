@@ -3,7 +3,7 @@ use Rattle.std.proofs.Common.{refl, arith}
 use mathlib.Core.Logic.{inl, inr}
 use Rattle.rules.specs.Kinds as Kinds
 use Rattle.rules.specs.Step.{ruled}
-use Rattle.performing.proofs.Choosing.{label_few, label_used, exec_named, not_exec, its_kind, kindless, no_object, at_object, no_label, at_label}
+use Rattle.performing.proofs.Choosing.{label_few, label_used, exec_named, not_exec, its_kind, kindless, no_object, at_object, label_missed, at_label}
 use Rattle.performing.proofs.next.Goals as goal
 
 pub start-requires-clause-label_bound : goal.start-requires-clause-label_bound
@@ -23,7 +23,7 @@ returns-then-choice-from c =
 pub returns-in_err-label : goal.returns-in_err-label
 returns-in_err-label c =
     let other = not_exec c.args.choice (omega arith) _ c.from.ensures c.if-choice-from.false in
-    no_label _ _ _ (omega arith) (omega arith) _ c.label_of.ensures other _ _ c.in_err-label.ensures.value c.from_residual-in_err-label.ensures.1
+    label_missed _ _ _ (omega arith) (omega arith) _ c.label_of.ensures other _ _ c.in_err-label.ensures.value c.from_residual-in_err-label.ensures.1
 
 pub returns-in_err-try_from : goal.returns-in_err-try_from
 returns-in_err-try_from c =

@@ -4,5 +4,5 @@ use Rattle.entries.proofs.running.run_choices.Goals as goal
 
 pub loop-i-preserved : goal.loop-i-preserved
 loop-i-preserved c =
-    turned _ _ _ _ _ _ c.loop-i.invariant c.loop-i-test.true _ _ c.perform.ensures.configuration c.perform.auto.cells
-    c.perform.auto.answers c.perform.ensures.cells_after c.perform.ensures.answers_after
+    turned _ _ _ _ _ _ c.loop-i.invariant c.loop-i-test.true _ _ c.perform.ensures.configuration c.perform.auto.answers c.perform.ensures.cells_after
+    c.perform.ensures.answers_after
